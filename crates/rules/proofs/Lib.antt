@@ -1,0 +1,5 @@
+pub mod Tests
+pub mod Counting
+pub mod Votes
+pub mod Lists
+pub mod Digits

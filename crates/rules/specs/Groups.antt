@@ -1,0 +1,97 @@
+-- Document 01, "Groups within groups": halves, what a record holds, how each word is read. Assumes nothing.
+use Prim.Native.Nat.{ℕ, _+_, _*_, _-_, _/_, min}
+use mathlib.Core.Bool.{Bool, cond}
+use mathlib.Core.List.{List}
+use lib.Dec.{eqb, ltb}
+use lib.ListN.{getD}
+use Rattle.rules.specs.declared.Vote.{Vote}
+use Rattle.rules.specs.declared.Vote.the-variants.{Count, None}
+use Rattle.rules.specs.Parameters.{c0, c1, restart, noneWord}
+
+-- one for half 0, the other for half 1
+abbrev pub atHalf : {A : Type 0} → ℕ → A → A → A
+atHalf i zeroth first = cond (eqb i 0) zeroth first
+
+-- "half 0 is the first n/2 cards (rounded down)", "half 1 is the rest"
+abbrev pub halfCards : ℕ → ℕ → ℕ
+halfCards i n = atHalf i (n / 2) (n - n / 2)
+
+-- the first card of half i
+abbrev pub halfFirst : ℕ → ℕ → ℕ
+halfFirst i n = atHalf i 0 (n / 2)
+
+-- f0 = (f-1)/2 rounded down, f1 = (f-1)/2 rounded up
+abbrev pub halfBroken : ℕ → ℕ → ℕ
+halfBroken i f = atHalf i ((f - 1) / 2) ((f - 1 + 1) / 2)
+
+-- "modulus c0", "modulus c1": "from the f of the group being split"
+abbrev pub halfModulus : ℕ → ℕ → ℕ
+halfModulus i f = atHalf i (c0 f) (c1 f)
+
+-- the half that a card is in
+abbrev pub halfOf : ℕ → ℕ → ℕ
+halfOf n card = cond (ltb card (n / 2)) 0 1
+
+-- What is heard: the word j of the sender u. Of a half it is what is heard from the half's first card on, past the eight
+-- words of the group around it ("Cards are numbered from 0 within their group", "outermost group first")
+abbrev pub heardFrom : (ℕ → ℕ → ℕ) → ℕ → ℕ → ℕ → ℕ → ℕ
+heardFrom hear first base u j = hear (first + u) (base + j)
+
+abbrev pub heardInHalf : ℕ → ℕ → (ℕ → ℕ → ℕ) → ℕ → ℕ → ℕ
+heardInHalf i n hear = heardFrom hear (halfFirst i n) 8
+
+-- where the word j of the card u stands in a table of records of w words
+abbrev pub place : ℕ → ℕ → ℕ → ℕ
+place w u j = u * w + j
+
+-- what is heard where the records stand one after the other
+abbrev pub heardIn : ℕ → List ℕ → ℕ → ℕ → ℕ
+heardIn w records u j = getD records (place w u j) 0
+
+-- "eight words for a split group, m0 m1 M0 M1 w0 w1 a b, and one word a for a group with f = 0"
+abbrev pub mPlace : ℕ → ℕ
+mPlace i = i
+
+abbrev pub votePlace : ℕ → ℕ
+votePlace i = 2 + i
+
+abbrev pub waitPlace : ℕ → ℕ
+waitPlace i = 4 + i
+
+abbrev pub bPlace : ℕ
+bPlace = 7
+
+-- "A group's output is its word a"
+abbrev pub outputPlace : ℕ → ℕ
+outputPlace f = cond (eqb f 0) 0 6
+
+-- "a output or M at or above its modulus is none"; "an m at or above ci is not counted"
+unfoldable pub readVote : ℕ → ℕ → Vote
+readVote m word = cond (ltb word m) (Count word) None
+
+-- the output of a group, of a card's words from that group on
+abbrev pub outputOf : ℕ → ℕ → (ℕ → ℕ) → Vote
+outputOf f c words = readVote c (words (outputPlace f))
+
+-- mi as it was sent, Mi as it is kept
+abbrev pub sentM : ℕ → ℕ → (ℕ → ℕ) → Vote
+sentM i f words = readVote (halfModulus i f) (words (mPlace i))
+
+abbrev pub keptVote : ℕ → ℕ → (ℕ → ℕ) → Vote
+keptVote i f words = readVote (halfModulus i f) (words (votePlace i))
+
+-- "w above 2·c1 is 2·c1"
+abbrev pub keptWait : ℕ → ℕ → (ℕ → ℕ) → ℕ
+keptWait i f words = min (words (waitPlace i)) (restart f)
+
+-- "b other than 1 is 0"
+abbrev pub keptB : (ℕ → ℕ) → Bool
+keptB words = eqb (words bPlace) 1
+
+-- how a vote and a bit are written
+unfoldable pub wordOf : Vote → ℕ
+wordOf (Count x) = x
+wordOf None = noneWord
+
+abbrev pub bitOf : Bool → ℕ
+bitOf b = cond b 1 0

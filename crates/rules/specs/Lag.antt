@@ -1,0 +1,13 @@
+-- Document 01, "Lag". Assumes nothing.
+use Prim.Native.Nat.{ℕ, _+_, _*_, _-_}
+use mathlib.Core.Bool.{cond}
+use lib.Dec.{leb}
+use lib.IntN.{ℤ, pos, negℤ}
+
+-- how far one goes on from y to come to x, on a circle of c
+abbrev pub ahead : ℕ → ℕ → ℕ → ℕ
+ahead c x y = cond (leb y x) (x - y) (x + c - y)
+
+-- "the number congruent to x - y modulo c that is above -c/2 and at most c/2"
+unfoldable pub lagOf : ℕ → ℕ → ℕ → ℤ
+lagOf c x y = cond (leb (2 * ahead c x y) c) (pos (ahead c x y)) (negℤ (pos (c - ahead c x y)))

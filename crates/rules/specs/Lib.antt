@@ -1,0 +1,12 @@
+pub mod Counting
+pub mod Parameters
+pub mod Groups
+pub mod OneBeat
+pub mod WholeBeat
+pub mod Lag
+pub mod Bytes
+pub mod Text
+pub mod Refusals
+pub mod Calls
+pub mod RunFile
+pub mod ByHand

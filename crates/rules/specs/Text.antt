@@ -1,0 +1,70 @@
+-- Document 01, "Run files and the run program": digits, the text of a record, lines. Assumes nothing.
+use Prim.Native.Nat.{ℕ, zero, suc, _+_, _*_, _-_, _/_, _%_, _^_}
+use mathlib.Core.Bool.{Bool, true, cond, _&&_, _||_}
+use mathlib.Core.List.{List, [], _∷_, _++_}
+use lib.Dec.{eqb, ltb, leb}
+use lib.ListN.{length, getD}
+use Rattle.rules.specs.Counting.{rows, tabulate}
+
+-- the character of a digit below 16: 0-9, a-f
+unfoldable pub digitOf : ℕ → ℕ
+digitOf x = cond (ltb x 10) (48 + x) (87 + x)
+
+-- "a character outside 0-9, a-f" is none
+unfoldable pub isDigit : ℕ → Bool
+isDigit ch = (leb 48 ch && leb ch 57) || (leb 97 ch && leb ch 102)
+
+-- the value of such a character
+unfoldable pub valueOf : ℕ → ℕ
+valueOf ch = cond (leb ch 57) (ch - 48) (ch - 87)
+
+-- a number in k digits, "lower case, high digit first"
+unfoldable pub hexOf : ℕ → ℕ → List ℕ
+hexOf k x = tabulate k (λ (i : ℕ). digitOf (x / 16 ^ (k - 1 - i) % 16))
+
+-- the number that k digits from a place on make
+unfoldable pub numberAt : List ℕ → ℕ → ℕ → ℕ
+numberAt text at zero = 0
+numberAt text at (suc k) = 16 * numberAt text at k + valueOf (getD text (at + k) 0)
+
+-- are all of them digits?
+unfoldable pub allDigits : List ℕ → Bool
+allDigits [] = true
+allDigits (ch ∷ rest) = isDigit ch && allDigits rest
+
+-- not refused by 10: neither "a wrong length" nor another character
+unfoldable pub wellFormed : ℕ → List ℕ → Bool
+wellFormed size text = eqb (length text) size && allDigits text
+
+-- "A word is 4 digits. The text of one record is its W words and nothing else"
+unfoldable pub textOf : List ℕ → List ℕ
+textOf words = rows (length words) (λ (i : ℕ). hexOf 4 (getD words i 0))
+
+-- the k words of a text, from a place on
+unfoldable pub wordsAt : List ℕ → ℕ → ℕ → List ℕ
+wordsAt text at k = tabulate k (λ (i : ℕ). numberAt text (at + 4 * i) 4)
+
+-- a line feed
+abbrev pub lineFeed : ℕ
+lineFeed = 10
+
+-- the lines of a text with one character more in front of it
+unfoldable pub oneMore : ℕ → List (List ℕ) → List (List ℕ)
+oneMore ch [] = (ch ∷ []) ∷ []
+oneMore ch (line ∷ others) = (ch ∷ line) ∷ others
+
+unfoldable pub inFront : ℕ → List (List ℕ) → List (List ℕ)
+inFront ch others = cond (eqb ch lineFeed) ([] ∷ others) (oneMore ch others)
+
+-- the lines of a text, without their line feeds: "What follows the last line feed is a line only if it has a character"
+unfoldable pub linesOf : List ℕ → List (List ℕ)
+linesOf [] = []
+linesOf (ch ∷ rest) = inFront ch (linesOf rest)
+
+-- is there a line k, "counted from 1"?
+unfoldable pub hasLine : ℕ → List ℕ → Bool
+hasLine k text = leb 1 k && leb k (length (linesOf text))
+
+-- line k, "and an empty part if there is no such line"
+unfoldable pub lineAt : ℕ → List ℕ → List ℕ
+lineAt k text = cond (hasLine k text) (getD (linesOf text) (k - 1) []) []

@@ -1,0 +1,21 @@
+//! The block counter a second time, written from the paper alone (document 01),
+//! so that the two implementations can be held against each other.
+//!
+//! Counts are `Option<u16>`; the word 65,535 for none appears only where a word
+//! is read or written.
+
+#![forbid(unsafe_code)]
+
+pub mod beat;
+pub mod card;
+pub mod count;
+pub mod generate;
+pub mod group;
+pub mod king;
+pub mod lag;
+pub mod params;
+pub mod random;
+pub mod refusal;
+pub mod runfile;
+pub mod split;
+pub mod text;

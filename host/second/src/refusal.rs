@@ -1,0 +1,70 @@
+//! The numbers for what is turned away.
+
+use std::fmt;
+
+/// Why a call is turned away; the values are the paper's numbers.
+#[derive(Clone, Copy, Debug, PartialEq, Eq)]
+pub enum Refusal {
+    CardCount = 1,
+    BrokenAllowance = 2,
+    Modulus = 3,
+    CardNumber = 4,
+    Records = 5,
+    OutputLength = 6,
+    BrokenSet = 7,
+    BrokenWords = 8,
+    LagInput = 9,
+    Text = 10,
+    BeatNumber = 11,
+}
+
+impl Refusal {
+    /// The rows of the paper's table: "Tested in this order where they apply."
+    pub const TABLE: [Refusal; 11] = [
+        Refusal::CardCount,
+        Refusal::BrokenAllowance,
+        Refusal::Modulus,
+        Refusal::BrokenSet,
+        Refusal::CardNumber,
+        Refusal::Records,
+        Refusal::BrokenWords,
+        Refusal::OutputLength,
+        Refusal::LagInput,
+        Refusal::Text,
+        Refusal::BeatNumber,
+    ];
+
+    /// The paper's number, 1 to 11.
+    pub fn number(self) -> u8 {
+        self as u8
+    }
+
+    /// Refuses exactly when the condition holds.
+    pub fn when(self, condition: bool) -> Result<(), Refusal> {
+        if condition {
+            Err(self)
+        } else {
+            Ok(())
+        }
+    }
+}
+
+impl fmt::Display for Refusal {
+    fn fmt(&self, formatter: &mut fmt::Formatter<'_>) -> fmt::Result {
+        formatter.write_str(match self {
+            Refusal::CardCount => "n is 0 or above 16",
+            Refusal::BrokenAllowance => "f above 5, or 3f >= n",
+            Refusal::Modulus => "c below 2 or above 65,535",
+            Refusal::CardNumber => "card number at or above n",
+            Refusal::Records => "records not the needed words",
+            Refusal::OutputLength => "output buffer not exactly the needed length",
+            Refusal::BrokenSet => "broken set names a card at or above n, or more than f cards",
+            Refusal::BrokenWords => "broken cards' words not n·(broken)·W",
+            Refusal::LagInput => "a lag input at or above c",
+            Refusal::Text => "text with a wrong length or character, or a wanted line missing",
+            Refusal::BeatNumber => "beat number not the next",
+        })
+    }
+}
+
+impl std::error::Error for Refusal {}
