@@ -5,7 +5,7 @@ use native.Mathlib.Omega.{arith}
 use lib.Arith.{half-le}
 use Rattle.rules.specs.Parameters.{digitsIn, binaryDigits}
 
-no-digits : (m : ℕ) → digitsIn m 0 ≡ 0
+pub no-digits : (m : ℕ) → digitsIn m 0 ≡ 0
 unfolding digitsIn
 no-digits zero = refl
 no-digits (suc m) = refl

@@ -3,3 +3,4 @@ pub mod Counting
 pub mod Votes
 pub mod Lists
 pub mod Digits
+pub mod Shapes

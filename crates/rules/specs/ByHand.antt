@@ -13,7 +13,7 @@ use Rattle.rules.specs.Parameters.{c0, c1, restart, digitsIn, binaryDigi
 use Rattle.rules.specs.Groups.{readVote, wordOf, bitOf, heardIn}
 use Rattle.rules.specs.OneBeat.{Standing, sentBy, enough, mostSent, mostFrequent, vote, follows, cooldown, span, pointer, step0, step1, step2, supported, obeyed, gained, leafNext, groupNext, padded, nextRecord, shownCount}
 use Rattle.rules.specs.WholeBeat.{isBroken, brokenBelow, badSet, heardOnBeat, heldRecord, recordAfter, tableAfter}
-use Rattle.rules.specs.Lag.{lagOf}
+use Rattle.rules.specs.Lag.{nearest, lagOf}
 use Rattle.rules.specs.Text.{digitOf, isDigit, valueOf, hexOf, numberAt, allDigits, wellFormed, wordsAt, lineFeed, oneMore, inFront, linesOf}
 use Rattle.rules.specs.RunFile.{headerOf, headerRefusal, startRefusal, beatRefusal, shownWord, outputLine, refusalLine, orRefused, takeLine, atEnd, continued, runLines, runText}
 
@@ -70,7 +70,7 @@ starred =
     ∷ []
 
 pub starred-hold : map (λ (k : Case). k .got) starred ≡ map (λ (k : Case). k .printed) starred
-unfolding starred countBelow largestBelow least orElse countOr0 same digitsIn binaryDigits readVote wordOf sentBy enough mostSent mostFrequent vote follows cooldown pointer step0 step1 step2 supported obeyed gained leafNext groupNext padded nextRecord lagOf
+unfolding starred countBelow largestBelow least orElse countOr0 same digitsIn binaryDigits readVote wordOf sentBy enough mostSent mostFrequent vote follows cooldown pointer step0 step1 step2 supported obeyed gained leafNext groupNext padded nextRecord nearest lagOf
 starred-hold = refl
 
 -- a line of a run file, by its number of digits and the number that they make

@@ -8,6 +8,10 @@ use lib.IntN.{ℤ, pos, negℤ}
 abbrev pub ahead : ℕ → ℕ → ℕ → ℕ
 ahead c x y = cond (leb y x) (x - y) (x + c - y)
 
--- "the number congruent to x - y modulo c that is above -c/2 and at most c/2"
+-- the number congruent to d modulo c "that is above -c/2 and at most c/2"
+unfoldable pub nearest : ℕ → ℕ → ℤ
+nearest c d = cond (leb (2 * d) c) (pos d) (negℤ (pos (c - d)))
+
+-- "Lag of x against y: the number congruent to x - y modulo c that is above -c/2 and at most c/2."
 unfoldable pub lagOf : ℕ → ℕ → ℕ → ℤ
-lagOf c x y = cond (leb (2 * ahead c x y) c) (pos (ahead c x y)) (negℤ (pos (c - ahead c x y)))
+lagOf c x y = nearest c (ahead c x y)

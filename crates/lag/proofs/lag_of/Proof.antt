@@ -1,0 +1,59 @@
+-- `lag::lag_of` meets its contract. Assumes nothing.
+use borrow.Author.Needs.{needs}
+use borrow.Author.Tests.{eq-eqb, ne-eqb, le-leb, lt-leb}
+use mathlib.Core.Path.{_≡_, sym, _∙_}
+use Prim.Native.Nat.{_-_}
+use native.Mathlib.Omega.{arith}
+use mir.Syntax.{w32}
+use mir.Facts.{toZ-pos}
+use Rattle.rules.specs.Lag.{nearest, lagOf}
+use Rattle.rules.specs.Calls.{lagAnswer}
+use Rattle.lag.proofs.Accepted.{Inputs, accepted}
+use Rattle.lag.proofs.Signs.{minus-fits, minus-is}
+use Rattle.lag.proofs.lag_of.Statement.{statement}
+use Rattle.lag.proofs.lag_of.Tie as tie
+
+-- what is known once nothing is refused
+good : (c : tie.Else1) → Inputs (c .before .before .args .c) (c .before .before .args .x) (c .before .before .args .y)
+good c = let a = c .before .before .args in accepted (a .c) (a .x) (a .y) (sym (c .before .lag-refusal .ensures) ∙ c .if1 .left)
+
+returns : tie.Need-returns
+unfolding lagAnswer
+returns c = rw (← (c .before .lag-refusal .ensures), ne-eqb _ _ (c .if1 .taken))
+
+turn-ahead-requires : tie.Need-turn-ahead-requires
+turn-ahead-requires c κs = let g = good c in (g .x-below, g .y-below, g .most)
+
+mul-if2 : tie.Need-mul-if2
+mul-if2 c = omega (arith, good (c .before) .most)
+
+minus-result : tie.Need-sub-result-2
+minus-result c =
+    minus-fits (c .before .before .before .before .args .c - c .before .turn-ahead .result) (omega (arith, good (c .before .before) .most))
+
+forward : tie.Need-returns-2
+unfolding lagAnswer lagOf nearest
+forward c =
+    rw (← (c .before .before .before .lag-refusal .ensures), eq-eqb _ _ (c .before .before .if1 .left), ← (c .before .turn-ahead .ensures .1), le-leb _ _ (c .if2 .taken))
+    (toZ-pos w32 (omega (arith, good (c .before .before) .most)))
+
+back : tie.Need-returns-3
+unfolding lagAnswer lagOf nearest
+back c =
+    rw (← (c .before .before .before .lag-refusal .ensures), eq-eqb _ _ (c .before .before .if1 .left), ← (c .before .turn-ahead .ensures .1), lt-leb _ _ (c .if2 .left))
+    (minus-is (c .before .before .before .before .args .c - c .before .turn-ahead .result) (omega (arith, good (c .before .before) .most)))
+
+pub lag-of-spec : {M : Type 1} → statement M
+lag-of-spec =
+    tie.close
+    (tie.spec
+    (λ c κs. search needs)
+    returns
+    turn-ahead-requires
+    mul-if2
+    (λ c. search needs)
+    (λ c. search needs)
+    (λ c. search needs)
+    minus-result
+    forward
+    back)
