@@ -1,0 +1,15 @@
+pub mod Fields
+pub mod HalfRun
+pub mod Halves
+pub mod Inc
+pub mod King
+pub mod Majority
+pub mod Pointers
+pub mod Quorum
+pub mod Seen
+pub mod Settles
+pub mod Stable
+pub mod Trusted
+pub mod Turn
+pub mod WholeBeats
+pub mod Window

@@ -1,0 +1,1 @@
+// Demand 3: theorems over the rules alone. The statements are in specs/, their proofs in proofs/.
