@@ -54,7 +54,7 @@ leads-start heard m l =
     record {
       below = l;
       most = λ j lj. omega (arith, sent-zero heard (Count j));
-      first = λ j lj. absurd (omega arith)
+      first = λ j lj. absurd (omega arith);
     }
 
 pub leads-same : (heard : ℕ → Vote) (m u best : ℕ) → heard u ≡ None → Leads heard m u best → Leads heard m (u + 1) best
@@ -63,7 +63,7 @@ leads-same heard m u best e L =
     record {
       below = L .below;
       most = λ j lj. omega (arith, same j, same best, L .most j lj);
-      first = λ j lj. omega (arith, same j, same best, L .first j lj)
+      first = λ j lj. omega (arith, same j, same best, L .first j lj);
     }
 
 -- a card that sent x: x leads now, or the leader stays
@@ -138,5 +138,5 @@ leads-is heard m n best L =
     let most = largest-least m times (times best) (L .most) in
     let top = largest-le m times best (L .below) in
     let e = least-at m (λ (x : ℕ). leb (largestBelow m times) (times x)) best (L .below) (le-leb _ _ most)
-        (λ j lj. lt-leb (largestBelow m times) (times j) (omega (arith, L .first j lj))) in
+    (λ j lj. lt-leb (largestBelow m times) (times j) (omega (arith, L .first j lj))) in
     rw e

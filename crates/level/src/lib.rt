@@ -1,7 +1,205 @@
 pub mod column;
+pub mod group;
+pub mod pointer;
+pub mod steps;
 
-use column::Column;
+use group::Group;
 use params::Row;
 use rules::Vote;
+use steps::Stand;
 ghost use mathlib.Core.Path.{_≡_};
-ghost use Prim.Native.Nat.{ℕ, _+_, _*_, _<_, _≤_};
+ghost use Prim.Native.Nat.{ℕ, _+_, _<_, _≤_, min};
+ghost use lib.ListN.{length};
+ghost use lib.Seq.{sets};
+ghost use Rattle.rules.specs.Parameters.{turn};
+ghost use Rattle.rules.specs.Groups.{readVote, halfOf, wordOf, bitOf};
+ghost use Rattle.rules.specs.OneBeat.{cooldown, trusted, phase};
+ghost use Rattle.params.specs.Answers.{rowRead};
+ghost use Rattle.level.specs.Groups.{Split, heardBy};
+ghost use Rattle.level.specs.Levels.{levelRead, levelAfter, votedZero, votedOne, wordsOf};
+
+// What a card keeps of a split group: m0 m1 M0 M1 w0 w1 a b, as document 01 reads them.
+pub struct Level {
+    pub m0: u16,
+    pub m1: u16,
+    pub vote0: Vote,
+    pub vote1: Vote,
+    pub wait0: u16,
+    pub wait1: u16,
+    pub a: Vote,
+    pub b: bool,
+}
+
+// "wi less 1, not below 0. Otherwise 2·c1"
+fn wait_after(old: Vote, new: Vote, m: u16, wait: u16, restart: u16) -> u16
+    requires { ⌜ 0 < m ⌝ }
+    ensures { λ r. ⌜ r ≡ cooldown m restart old new wait ⌝ }
+{
+    let Vote::Count(x) = old else {
+        return restart;
+    };
+    let Vote::Count(y) = new else {
+        return restart;
+    };
+    if y as u32 != (x as u32 + 1) % (m as u32) {
+        return restart;
+    }
+    if wait == 0 { 0 } else { wait - 1 }
+}
+
+impl Level {
+    // Half 0 has voted: M0 is new, and w0 goes by the old M0 and the new.
+    pub fn voted_zero(self, new: Vote, row: Row) -> Level
+        requires { ⌜ 0 < row .c0 ⌝ }
+        ensures { λ r. ⌜ r ≡ votedZero self new (row .c0) (row .restart) ⌝ }
+    {
+        let old = self.vote0;
+        let vote1 = self.vote1;
+        let a = self.a;
+        let wait = wait_after(old, new, row.c0, self.wait0, row.restart);
+        Level {
+            m0: self.m0,
+            m1: self.m1,
+            vote0: new,
+            vote1: vote1,
+            wait0: wait,
+            wait1: self.wait1,
+            a: a,
+            b: self.b,
+        }
+    }
+
+    // The same of half 1.
+    pub fn voted_one(self, new: Vote, row: Row) -> Level
+        requires { ⌜ 0 < row .c1 ⌝ }
+        ensures { λ r. ⌜ r ≡ votedOne self new (row .c1) (row .restart) ⌝ }
+    {
+        let old = self.vote1;
+        let vote0 = self.vote0;
+        let a = self.a;
+        let wait = wait_after(old, new, row.c1, self.wait1, row.restart);
+        Level {
+            m0: self.m0,
+            m1: self.m1,
+            vote0: vote0,
+            vote1: new,
+            wait0: self.wait0,
+            wait1: wait,
+            a: a,
+            b: self.b,
+        }
+    }
+}
+
+// "w above 2·c1 is 2·c1"
+fn at_most(word: u16, most: u16) -> u16
+    ensures { λ r. ⌜ r ≡ min word most ⌝ }
+{
+    if word < most { word } else { most }
+}
+
+// The vote that a word of one of the group's cards is read as.
+fn vote_at(recs: &[u16], g: Group, j: usize, card: usize, m: u32) -> Vote
+    requires { ⌜ (Split (length (now recs)) g) × (card < g .n) × (j < 8) ⌝ }
+    ensures { λ r. ⌜ r ≡ readVote m (heardBy (now (recs .entry)) g card j) ⌝ }
+{
+    column::read_vote(m, column::said(recs, group::column(g, j), card))
+}
+
+// The level that a card of the group keeps, from its eight words.
+fn read_level(recs: &[u16], g: Group, card: usize, row: Row) -> Level
+    requires { ⌜ (Split (length (now recs)) g) × (card < g .n) × (row ≡ rowRead (g .f)) ⌝ }
+    ensures { λ r. ⌜ r ≡ levelRead (g .f) (g .c) (heardBy (now (recs .entry)) g card) ⌝ }
+{
+    Level {
+        m0: column::said(recs, group::column(g, 0), card),
+        m1: column::said(recs, group::column(g, 1), card),
+        vote0: vote_at(recs, g, 2, card, row.c0 as u32),
+        vote1: vote_at(recs, g, 3, card, row.c1 as u32),
+        wait0: at_most(column::said(recs, group::column(g, 4), card), row.restart),
+        wait1: at_most(column::said(recs, group::column(g, 5), card), row.restart),
+        a: vote_at(recs, g, 6, card, g.c),
+        b: column::said(recs, group::column(g, 7), card) == 1,
+    }
+}
+
+impl Level {
+    // d, for a card of the group that keeps this level.
+    fn phase(self, g: Group, card: usize, row: Row) -> u16
+        requires { ⌜ (row .turn ≡ turn (g .f)) × (row .turn < 1024) ⌝ }
+        ensures { λ r. ⌜ r ≡ phase (halfOf (g .n) card) (g .f) (trusted (self .wait0) (self .vote0)) (trusted (self .wait1) (self .vote1)) ⌝ }
+    {
+        let vote0 = self.vote0;
+        let vote1 = self.vote1;
+        let d0 = pointer::trusted_vote(self.wait0, vote0);
+        let d1 = pointer::trusted_vote(self.wait1, vote1);
+        let half: usize = if card < g.n / 2 { 0 } else { 1 };
+        pointer::phase_of(half, g.f, row.turn, d0, d1)
+    }
+}
+
+// The level after the beat: everything on the right is from before it.
+pub fn next_level(recs: &[u16], g: Group, card: usize) -> Level
+    requires { ⌜ (Split (length (now recs)) g) × (card < g .n) ⌝ }
+    ensures { λ r. ⌜ r ≡ levelAfter (g .n) (g .f) (g .c) (heardBy (now (recs .entry)) g) card ⌝ }
+{
+    let row = params::row_of(g.f);
+    let own = read_level(recs, g, card, row);
+    let a = own.a;
+    let d = own.phase(g, card, row);
+    let s = steps::three_steps(
+        recs,
+        group::column(g, 6),
+        g.f,
+        g.c,
+        d,
+        Stand { a: a, b: own.b },
+    );
+    let vote0 = column::vote_of(recs, group::column(g, 0), g.f as usize, row.c0 as usize);
+    let vote1 = column::vote_of(recs, group::column(g, 1), g.f as usize, row.c1 as usize);
+    let next = own.voted_zero(vote0, row).voted_one(vote1, row);
+    let a_after = s.a;
+    Level {
+        m0: column::most_frequent(recs, group::outputs_of_zero(g), row.c0 as usize),
+        m1: column::most_frequent(recs, group::outputs_of_one(g), row.c1 as usize),
+        vote0: vote0,
+        vote1: vote1,
+        wait0: next.wait0,
+        wait1: next.wait1,
+        a: steps::gain(g.c, a_after),
+        b: s.b,
+    }
+}
+
+fn word_of(v: Vote) -> u16
+    ensures { λ r. ⌜ r ≡ wordOf v ⌝ }
+{
+    match v {
+        Vote::Count(x) => x,
+        Vote::None => 65535,
+    }
+}
+
+fn bit_of(b: bool) -> u16
+    ensures { λ r. ⌜ r ≡ bitOf b ⌝ }
+{
+    if b { 1 } else { 0 }
+}
+
+// The level's eight words, written from `base` on.
+pub fn put_level(out: &mut [u16], base: usize, l: Level)
+    requires { ⌜ base + 8 ≤ length (now out) ⌝ }
+    ensures { λ _. ⌜ now (out .exit) ≡ sets (now (out .entry)) base (wordsOf l) ⌝ }
+{
+    let vote0 = l.vote0;
+    let vote1 = l.vote1;
+    let a = l.a;
+    out[base] = l.m0;
+    out[base + 1] = l.m1;
+    out[base + 2] = word_of(vote0);
+    out[base + 3] = word_of(vote1);
+    out[base + 4] = l.wait0;
+    out[base + 5] = l.wait1;
+    out[base + 6] = word_of(a);
+    out[base + 7] = bit_of(l.b);
+}

@@ -17,7 +17,7 @@ use Rattle.rules.specs.Groups.{halfCards, halfFirst, halfBroken, halfModulus, h
 use Rattle.rules.specs.OneBeat.{levelNext, groupNext, nextRecord}
 use Rattle.rules.specs.WholeBeat.{isBroken, brokenBelow, badSet, heardOnBeat, heldRecord, recordAfter, tableAfter}
 use Rattle.rules.specs.Refusals.{beatRefusal, wrong}
-use Rattle.rules.specs.Lag.{lagOf}
+use Rattle.rules.specs.Lag.{nearest, lagOf}
 use Rattle.rules.proofs.Tests.{decided}
 use Rattle.rules.proofs.Counting.{count-same}
 use Rattle.rules.proofs.Lists.{rows-length, rows-at, tabulate-length, padded-at, padded-length}
@@ -141,7 +141,7 @@ settles-on-beats n f c set start sent ok =
 
 -- a count against itself
 lag-self : (c x : ℕ) → lagOf c x x ≡ pos 0
-unfolding lagOf
+unfolding lagOf nearest
 lag-self c x = rw (le-leb x x (omega arith), sub-self x, le-leb 0 c (omega arith))
 
 pub no-comb : NoComb

@@ -19,18 +19,18 @@ pub fn beat(
     let group = Group::outermost(n, f, c)?;
     check_broken(n, f, broken)?;
     let words = params::words(group.f);
-    let broken = broken_cards(group.n, broken);
+    let (liars, sound): (Vec<_>, Vec<_>) = (0..group.n).partition(|&card| is_broken(broken, card));
     Refusal::Records.when(records.len() != group.n * words)?;
-    Refusal::BrokenWords.when(sent.len() != group.n * broken.len() * words)?;
+    Refusal::BrokenWords.when(sent.len() != group.n * liars.len() * words)?;
     Refusal::OutputLength.when(out.len() != records.len())?;
 
     // "Broken cards' held records stay unchanged."
     out.copy_from_slice(records);
-    for card in (0..group.n).filter(|card| !broken.contains(card)) {
+    for card in sound {
         // "A sound card is heard as held."
         let mut heard: Vec<&[u16]> = records.chunks_exact(words).collect();
-        for (place, &liar) in broken.iter().enumerate() {
-            let start = (card * broken.len() + place) * words;
+        for (place, &liar) in liars.iter().enumerate() {
+            let start = (card * liars.len() + place) * words;
             heard[liar] = &sent[start..start + words];
         }
         group.step(card, &heard, &mut out[card * words..(card + 1) * words]);
@@ -43,7 +43,7 @@ pub fn check_broken(n: u32, f: u32, broken: u32) -> Result<(), Refusal> {
     Refusal::BrokenSet.when(broken >> n != 0 || broken.count_ones() > f)
 }
 
-/// The cards named by a broken set, in order.
-pub fn broken_cards(n: usize, broken: u32) -> Vec<usize> {
-    (0..n).filter(|card| broken >> card & 1 == 1).collect()
+/// Whether the broken set names this card.
+pub fn is_broken(broken: u32, card: usize) -> bool {
+    broken >> card & 1 == 1
 }

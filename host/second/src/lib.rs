@@ -7,6 +7,7 @@
 #![forbid(unsafe_code)]
 
 pub mod beat;
+pub mod bytes;
 pub mod card;
 pub mod count;
 pub mod generate;

@@ -2,10 +2,10 @@
 
 use std::io::{self, BufRead, Read, Write};
 
-use crate::beat::{beat, broken_cards, check_broken};
-use crate::count::NONE;
-use crate::group::Group;
-use crate::params;
+use crate::beat::{beat, check_broken, is_broken};
+use crate::card::shown;
+use crate::count;
+use crate::params::{self, check_cards, check_modulus};
 use crate::refusal::Refusal;
 use crate::text::{read_words, without_line_feed, write_words};
 
@@ -57,7 +57,7 @@ fn run_lines(lines: &mut Lines<impl BufRead>, output: &mut impl Write) -> Result
         // "any well-formed line after beat fffe, is 11"
         Refusal::BeatNumber.when(last == LAST_BEAT || frame[0] != last + 1)?;
         last = frame[0];
-        records = header.beat(&records, &frame[1..])?;
+        records = header.after_beat(&records, &frame[1..])?;
         header.show(last, &records, output)?;
     }
     Ok(())
@@ -69,7 +69,6 @@ struct Header {
     f: u32,
     c: u32,
     broken: u32,
-    group: Group,
 }
 
 impl Header {
@@ -79,51 +78,44 @@ impl Header {
     fn read(words: &[u16]) -> Result<Header, Refusal> {
         let [n, f] = words[0].to_be_bytes().map(u32::from);
         let [c, broken] = [words[1], words[2]].map(u32::from);
-        let group = Group::outermost(n, f, c)?;
+        check_cards(n, f)?;
+        check_modulus(c)?;
         check_broken(n, f, broken)?;
-        Ok(Header {
-            n,
-            f,
-            c,
-            broken,
-            group,
-        })
+        Ok(Header { n, f, c, broken })
+    }
+
+    fn record_words(&self) -> usize {
+        params::words(self.f as usize)
     }
 
     /// The words of the n records.
     fn table_words(&self) -> usize {
-        self.group.n * params::words(self.group.f)
+        self.n as usize * self.record_words()
     }
 
     /// The words the broken cards send in one beat.
     fn sent_words(&self) -> usize {
-        broken_cards(self.group.n, self.broken).len() * self.table_words()
+        self.broken.count_ones() as usize * self.table_words()
     }
 
-    fn beat(&self, records: &[u16], sent: &[u16]) -> Result<Vec<u16>, Refusal> {
+    fn after_beat(&self, records: &[u16], sent: &[u16]) -> Result<Vec<u16>, Refusal> {
+        let &Header { n, f, c, broken } = self;
         let mut next = vec![0; records.len()];
-        beat(
-            self.n,
-            self.f,
-            self.c,
-            self.broken,
-            records,
-            sent,
-            &mut next,
-        )?;
+        beat(n, f, c, broken, records, sent, &mut next)?;
         Ok(next)
     }
 
     /// Writes "the beat (4 digits) and, for each card in order, its shown count, ffff for none
     /// or broken".
-    fn show(&self, beat: u16, records: &[u16], output: &mut impl Write) -> io::Result<()> {
-        let broken = broken_cards(self.group.n, self.broken);
+    fn show(&self, beat: u16, records: &[u16], output: &mut impl Write) -> Result<(), Stop> {
         let mut line = vec![beat];
-        for (card, record) in records.chunks_exact(params::words(self.group.f)).enumerate() {
-            let shown = self.group.output(record);
-            line.push(shown.filter(|_| !broken.contains(&card)).unwrap_or(NONE));
+        for (card, record) in records.chunks_exact(self.record_words()).enumerate() {
+            let count = shown(self.n, self.f, self.c, record)?;
+            line.push(count::write(
+                count.filter(|_| !is_broken(self.broken, card)),
+            ));
         }
-        writeln!(output, "{}", write_words(&line))
+        Ok(writeln!(output, "{}", write_words(&line))?)
     }
 }
 
@@ -152,13 +144,11 @@ impl<Input: BufRead> Lines<Input> {
     /// The same, but none at the end of the input.
     fn next(&mut self, count: usize) -> Result<Option<Vec<u16>>, Refusal> {
         self.number += 1;
-        // No more is taken in than a good line and its line feed: what is longer shows already.
-        let most = 4 * count + 1;
-        let mut line = Vec::with_capacity(most);
+        // A good line and its line feed, and no more: that shows already what is too long.
+        let most = 4 * count as u64 + 1;
+        let mut line = Vec::new();
         if !self.ended {
-            let taken = (&mut self.input)
-                .take(most as u64)
-                .read_until(b'\n', &mut line);
+            let taken = (&mut self.input).take(most).read_until(b'\n', &mut line);
             self.ended = taken.is_err() || !line.ends_with(b"\n");
         }
         if line.is_empty() {

@@ -33,13 +33,13 @@ loop-again c =
     let e = c .before .said .ensures in
     ⊎-elim
     (λ w. let z : v u ≡ Count x = ap (readVote (a .m)) (sym e) ∙ read-below (a .m) x (w .0 .taken) in
-      let more = tally-more v (a .m) (l .loop .tally) u x (omega arith) z (w .0 .taken) (l .loop .inv .2) in
-      let leads = leads-more v (a .m) u (l .loop .best) x z (w .0 .taken) (l .loop .inv .3) _ _
-          (ap (λ (k : ℕ). k + 1) (l .loop .inv .2 .counts x (w .0 .taken)) ∙ sym (sent-yes v u (Count x) z)) (more .counts (l .loop .best) (l .loop .inv .3 .below)) in
-      rw (w .2, w .3, w .1 .ensures) (omega arith, simp length-set (l .loop .inv .1), more, leads))
+    let more = tally-more v (a .m) (l .loop .tally) u x (omega arith) z (w .0 .taken) (l .loop .inv .2) in
+    let leads = leads-more v (a .m) u (l .loop .best) x z (w .0 .taken) (l .loop .inv .3) _ _
+    (ap (λ (k : ℕ). k + 1) (l .loop .inv .2 .counts x (w .0 .taken)) ∙ sym (sent-yes v u (Count x) z)) (more .counts (l .loop .best) (l .loop .inv .3 .below)) in
+    rw (w .2, w .3, w .1 .ensures) (omega arith, simp length-set (l .loop .inv .1), more, leads))
     (λ w. let z : v u ≡ None = ap (readVote (a .m)) (sym e) ∙ read-above (a .m) x (w .0 .left) in
-      rw (w .1, w .2)
-      (omega arith, l .loop .inv .1, tally-same v (a .m) (l .loop .tally) u z (l .loop .inv .2), leads-same v (a .m) u (l .loop .best) z (l .loop .inv .3)))
+    rw (w .1, w .2)
+    (omega arith, l .loop .inv .1, tally-same v (a .m) (l .loop .tally) u z (l .loop .inv .2), leads-same v (a .m) u (l .loop .best) z (l .loop .inv .3)))
     (c .if1 .came)
 
 returns : tie.Need-returns Inv-loop μ-loop
@@ -55,15 +55,15 @@ most-frequent-spec =
     Inv-loop
     μ-loop
     (λ c. let a = c .before .args in
-      let v = votesIn (a .m) (a .recs .now) (a .col) in
-      (omega arith, refl, tally-start v (a .m) 128 (omega arith), leads-start v (a .m) (omega arith)))
+    let v = votesIn (a .m) (a .recs .now) (a .col) in
+    (omega arith, refl, tally-start v (a .m) 128 (omega arith), leads-start v (a .m) (omega arith)))
     (λ c κs. search needs)
     (λ c. search needs)
     (λ c. omega arith)
     (λ c. let l = c .before .before .before in
-      let a = l .before .before .args in
-      let v = votesIn (a .m) (a .recs .now) (a .col) in
-      omega (arith, l .loop .inv .2 .counts (c .before .said .result) (omega arith), sent-le v (l .loop .u) (Count (c .before .said .result))))
+    let a = l .before .before .args in
+    let v = votesIn (a .m) (a .recs .now) (a .col) in
+    omega (arith, l .loop .inv .2 .counts (c .before .said .result) (omega arith), sent-le v (l .loop .u) (Count (c .before .said .result))))
     (λ c. omega arith)
     (λ c. let l = c .before .before .before in omega (arith, l .loop .inv .3 .below))
     (λ c κs. search needs)

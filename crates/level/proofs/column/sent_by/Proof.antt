@@ -27,7 +27,7 @@ loop-again c =
     let a = l .before .before .args in
     let v = votesIn (a .m) (a .recs .now) (a .col) in
     let e = c .before .alike .ensures
-        ∙ ap (λ (x : Vote). same x (a .y)) (c .before .before .read-vote .ensures ∙ ap (readVote (a .m)) (c .before .before .before .said .ensures)) in
+    ∙ ap (λ (x : Vote). same x (a .y)) (c .before .before .read-vote .ensures ∙ ap (readVote (a .m)) (c .before .before .before .said .ensures)) in
     ⊎-elim
     (λ w. let z = sent-yes v (l .loop .u) (a .y) (same-true (v (l .loop .u)) (a .y) (sym e ∙ w .0 .taken)) in (omega arith, refl, omega arith, omega arith))
     (λ w. let z = sent-no v (l .loop .u) (a .y) (λ r. never (sym (same-eq (v (l .loop .u)) (a .y) r) ∙ sym e ∙ w .0 .left)) in (omega arith, refl, omega arith, omega arith))

@@ -32,19 +32,28 @@ loop-again c =
     let u = l .loop .u in
     let e : c .before .said .result ≡ word u = c .before .said .ensures in
     ⊎-elim
-    (λ w. rw (w .3)
-      (omega arith, omega arith, λ k. omega (arith, w .1 .ensures .0, w .2 .taken),
+    (λ w. rw (w .3) (
+      omega arith,
+      omega arith,
+      λ k. omega (arith, w .1 .ensures .0, w .2 .taken),
       below-more (λ (v : ℕ). word v < c .before .said .result → sentBy (a .col .n) votes (Count (word v)) ≤ a .f) u
-      (λ v lv k. l .loop .inv .3 v lv (omega arith)) (λ k. absurd (omega arith))))
+          (λ v lv k. l .loop .inv .3 v lv (omega arith)) (λ k. absurd (omega arith)),
+    ))
     (⊎-elim
-    (λ w. rw (w .3)
-      (omega arith, l .loop .inv .1, l .loop .inv .2,
+    (λ w. rw (w .3) (
+      omega arith,
+      l .loop .inv .1,
+      l .loop .inv .2,
       below-more (λ (v : ℕ). word v < l .loop .best → sentBy (a .col .n) votes (Count (word v)) ≤ a .f) u
-      (l .loop .inv .3) (λ k. rw (← e) (omega (arith, w .1 .ensures .0, w .2 .left)))))
-    (λ w. rw (w .1)
-      (omega arith, l .loop .inv .1, l .loop .inv .2,
+          (l .loop .inv .3) (λ k. rw (← e) (omega (arith, w .1 .ensures .0, w .2 .left))),
+    ))
+    (λ w. rw (w .1) (
+      omega arith,
+      l .loop .inv .1,
+      l .loop .inv .2,
       below-more (λ (v : ℕ). word v < l .loop .best → sentBy (a .col .n) votes (Count (word v)) ≤ a .f) u
-      (l .loop .inv .3) (λ k. absurd (omega (arith, w .0 .left))))))
+          (l .loop .inv .3) (λ k. absurd (omega (arith, w .0 .left))),
+    )))
     (c .if1 .came)
 
 -- what was sent and lies below the best is not supported

@@ -28,7 +28,7 @@ abbrev μ-loop : tie.MeasureT-loop
 more : (c : tie.Then1 Inv-loop μ-loop) → (getD (c .before .before .before .loop .tally) (c .before .said .result) 0 + 1 ≤ 256)
     × (votesIn (c .before .before .before .before .before .args .m) (c .before .before .before .before .before .args .recs .now) (c .before .before .before .before .before .args .col) (c .before .before .before .loop .u) ≡ Count (c .before .said .result))
     × (sentBy (c .before .before .before .loop .u + 1) (votesIn (c .before .before .before .before .before .args .m) (c .before .before .before .before .before .args .recs .now) (c .before .before .before .before .before .args .col)) (Count (c .before .said .result))
-      ≡ getD (c .before .before .before .loop .tally) (c .before .said .result) 0 + 1)
+    ≡ getD (c .before .before .before .loop .tally) (c .before .said .result) 0 + 1)
 more c =
     let l = c .before .before .before in
     let a = l .before .before .args in
@@ -55,12 +55,15 @@ loop-again c =
     let x = c .before .said .result in
     ⊎-elim
     (λ w. let r = more (record { before = c .before; if1 = w .0 }) in
-      rw (w .2)
-      (omega arith, simp length-set (l .loop .inv .1), tally-more v (a .m) (l .loop .tally) u x (omega arith) (r .1) (w .0 .taken) (l .loop .inv .2),
-      still-short v (a .col .n) (a .f) (a .m) u x (r .1) (rw (r .2) (w .1 .left)) (l .loop .inv .3)))
+    rw (w .2) (
+      omega arith,
+      simp length-set (l .loop .inv .1),
+      tally-more v (a .m) (l .loop .tally) u x (omega arith) (r .1) (w .0 .taken) (l .loop .inv .2),
+      still-short v (a .col .n) (a .f) (a .m) u x (r .1) (rw (r .2) (w .1 .left)) (l .loop .inv .3),
+    ))
     (λ w. let z : v u ≡ None = ap (readVote (a .m)) (sym (c .before .said .ensures)) ∙ read-above (a .m) x (w .0 .left) in
-      rw (w .1)
-      (omega arith, l .loop .inv .1, tally-same v (a .m) (l .loop .tally) u z (l .loop .inv .2), short-still v (a .col .n) (a .f) (a .m) u z (l .loop .inv .3)))
+    rw (w .1)
+    (omega arith, l .loop .inv .1, tally-same v (a .m) (l .loop .tally) u z (l .loop .inv .2), short-still v (a .col .n) (a .f) (a .m) u z (l .loop .inv .3)))
     (c .if1 .came)
 
 returns : tie.Need-returns-2 Inv-loop μ-loop
@@ -76,14 +79,14 @@ vote-of-spec =
     Inv-loop
     μ-loop
     (λ c. let a = c .before .args in
-      let v = votesIn (a .m) (a .recs .now) (a .col) in
-      (omega arith, refl, tally-start v (a .m) 128 (omega arith), λ j l. omega (arith, sent-zero v (Count j))))
+    let v = votesIn (a .m) (a .recs .now) (a .col) in
+    (omega arith, refl, tally-start v (a .m) 128 (omega arith), λ j l. omega (arith, sent-zero v (Count j))))
     (λ c κs. search needs)
     (λ c. search needs)
     (λ c. omega arith)
     (λ c. let l = c .before .before .before in
-      let a = l .before .before .args in
-      omega (arith, l .loop .inv .2 .counts (c .before .said .result) (c .if1 .taken), sent-le (votesIn (a .m) (a .recs .now) (a .col)) (l .loop .u) (Count (c .before .said .result))))
+    let a = l .before .before .args in
+    omega (arith, l .loop .inv .2 .counts (c .before .said .result) (c .if1 .taken), sent-le (votesIn (a .m) (a .recs .now) (a .col)) (l .loop .u) (Count (c .before .said .result))))
     (λ c. omega arith)
     (λ c. omega (arith, more c .0))
     (λ c. omega (arith, more c .0))
