@@ -5,10 +5,7 @@ use lib.IntN.{ℤ}
 use Rattle.rules.specs.Refusals.{lagRefusal}
 use Rattle.rules.specs.Calls.{lagAnswer}
 
--- the refusal, and apart from it the value
-pub record Allowed (c x y refusal : ℕ) (value : ℤ) : Type 0 where
-  pub refused : refusal ≡ lagRefusal c x y
-  pub answered : value ≡ lagAnswer c x y
-
-pub lag-determined : (c x y r s : ℕ) (z w : ℤ) → Allowed c x y r z → Allowed c x y s w → (r ≡ s) × (z ≡ w)
-lag-determined c x y r s z w p q = (p .refused ∙ sym (q .refused), p .answered ∙ sym (q .answered))
+-- the refusals r and s, and the lags z and w, for all inputs
+pub lag-determined : (c x y r s : ℕ) (z w : ℤ)
+    → r ≡ lagRefusal c x y → s ≡ lagRefusal c x y → z ≡ lagAnswer c x y → w ≡ lagAnswer c x y → (r ≡ s) × (z ≡ w)
+lag-determined c x y r s z w p q g h = (p ∙ sym q, g ∙ sym h)

@@ -24,11 +24,11 @@ ahead-round : (c x y d : ℕ) → x < y → y + d ≡ x + c → ahead c x y ≡ 
 ahead-round c x y d l e = rw (lt-leb y x l) (omega arith)
 
 -- the lag is that way, or the way back
-lag-on : (c x y d : ℕ) → ahead c x y ≡ d → 2 * d ≤ c → lagOf c x y ≡ pos d
+pub lag-on : (c x y d : ℕ) → ahead c x y ≡ d → 2 * d ≤ c → lagOf c x y ≡ pos d
 unfolding lagOf nearest
 lag-on c x y d e l = rw (e, le-leb (2 * d) c l)
 
-lag-back : (c x y d b : ℕ) → ahead c x y ≡ d → c < 2 * d → d + b ≡ c → lagOf c x y ≡ negℤ (pos b)
+pub lag-back : (c x y d b : ℕ) → ahead c x y ≡ d → c < 2 * d → d + b ≡ c → lagOf c x y ≡ negℤ (pos b)
 unfolding lagOf nearest
 lag-back c x y d b e l s = let r : c - d ≡ b = omega arith in rw (e, lt-leb (2 * d) c l, r)
 

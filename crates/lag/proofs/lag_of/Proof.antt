@@ -1,15 +1,15 @@
 -- `lag::lag_of` meets its contract. Assumes nothing.
 use borrow.Author.Needs.{needs}
-use borrow.Author.Tests.{eq-eqb, ne-eqb, le-leb, lt-leb}
+use borrow.Author.Tests.{eq-eqb, ne-eqb}
 use mathlib.Core.Path.{_≡_, sym, _∙_}
 use Prim.Native.Nat.{_-_}
 use native.Mathlib.Omega.{arith}
 use mir.Syntax.{w32}
 use mir.Facts.{toZ-pos}
-use Rattle.rules.specs.Lag.{nearest, lagOf}
 use Rattle.rules.specs.Calls.{lagAnswer}
 use Rattle.lag.proofs.Accepted.{Inputs, accepted}
 use Rattle.lag.proofs.Signs.{minus-fits, minus-is}
+use Rattle.lag.proofs.Theorems.{lag-on, lag-back}
 use Rattle.lag.proofs.lag_of.Statement.{statement}
 use Rattle.lag.proofs.lag_of.Tie as tie
 
@@ -22,7 +22,7 @@ unfolding lagAnswer
 returns c = rw (← (c .before .lag-refusal .ensures), ne-eqb _ _ (c .if1 .taken))
 
 turn-ahead-requires : tie.Need-turn-ahead-requires
-turn-ahead-requires c κs = let g = good c in (g .x-below, g .y-below, g .most)
+turn-ahead-requires c κs = let g = good c in omega arith
 
 mul-if2 : tie.Need-mul-if2
 mul-if2 c = omega (arith, good (c .before) .most)
@@ -32,16 +32,22 @@ minus-result c =
     minus-fits (c .before .before .before .before .args .c - c .before .turn-ahead .result) (omega (arith, good (c .before .before) .most))
 
 forward : tie.Need-returns-2
-unfolding lagAnswer lagOf nearest
+unfolding lagAnswer
 forward c =
-    rw (← (c .before .before .before .lag-refusal .ensures), eq-eqb _ _ (c .before .before .if1 .left), ← (c .before .turn-ahead .ensures .1), le-leb _ _ (c .if2 .taken))
-    (toZ-pos w32 (omega (arith, good (c .before .before) .most)))
+    let a = c .before .before .before .before .args in
+    let d = c .before .turn-ahead .result in
+    rw (← (c .before .before .before .lag-refusal .ensures), eq-eqb _ _ (c .before .before .if1 .left))
+    (toZ-pos w32 (omega (arith, good (c .before .before) .most))
+    ∙ sym (lag-on (a .c) (a .x) (a .y) d (sym (c .before .turn-ahead .ensures .1)) (omega arith)))
 
 back : tie.Need-returns-3
-unfolding lagAnswer lagOf nearest
+unfolding lagAnswer
 back c =
-    rw (← (c .before .before .before .lag-refusal .ensures), eq-eqb _ _ (c .before .before .if1 .left), ← (c .before .turn-ahead .ensures .1), lt-leb _ _ (c .if2 .left))
-    (minus-is (c .before .before .before .before .args .c - c .before .turn-ahead .result) (omega (arith, good (c .before .before) .most)))
+    let a = c .before .before .before .before .args in
+    let d = c .before .turn-ahead .result in
+    rw (← (c .before .before .before .lag-refusal .ensures), eq-eqb _ _ (c .before .before .if1 .left))
+    (minus-is (a .c - d) (omega (arith, good (c .before .before) .most))
+    ∙ sym (lag-back (a .c) (a .x) (a .y) d (a .c - d) (sym (c .before .turn-ahead .ensures .1)) (omega arith) (omega arith)))
 
 pub lag-of-spec : {M : Type 1} → statement M
 lag-of-spec =
