@@ -1,16 +1,18 @@
--- Laws of votes: when two are the same, how a word is read as one and written back. Assumes nothing.
+-- Laws of votes: when two are the same, how a word is read as one and written back, how many cards are enough.
+-- Assumes nothing.
 use mathlib.Core.Path.{_≡_, refl, ap}
 use mathlib.Core.Logic.{⊎-elim}
 use mathlib.Core.Bool.{Bool, true, false}
-use Prim.Native.Nat.{ℕ, _≤_, _<_}
+use Prim.Native.Nat.{ℕ, _-_, _≤_, _<_}
 use native.Mathlib.Omega.{arith}
 use lib.Dec.{ltb}
-use borrow.Author.Tests.{eqb-true, eq-eqb, lt-ltb, le-ltb, ltb-true}
+use borrow.Author.Tests.{eqb-true, eq-eqb, lt-ltb, le-ltb, ltb-true, leb-true, le-leb}
 use Rattle.rules.specs.declared.Vote.{Vote}
 use Rattle.rules.specs.declared.Vote.the-variants.{Count, None}
 use Rattle.rules.specs.Counting.{same}
 use Rattle.rules.specs.Parameters.{noneWord}
 use Rattle.rules.specs.Groups.{readVote, wordOf}
+use Rattle.rules.specs.OneBeat.{enough}
 use Rattle.rules.proofs.Tests.{decided}
 
 -- a count is never none
@@ -56,3 +58,12 @@ read-count m x l = read-below m x l
 pub read-none : (m : ℕ) → m ≤ noneWord → readVote m (wordOf None) ≡ None
 unfolding wordOf
 read-none m l = read-above m noneWord l
+
+-- enough are "at least n-f cards", whichever test says so
+pub enough-true : (n f cards : ℕ) → enough n f cards ≡ true → n - f ≤ cards
+unfolding enough
+enough-true n f cards e = omega (arith, leb-true, ltb-true)
+
+pub true-enough : (n f cards : ℕ) → n - f ≤ cards → enough n f cards ≡ true
+unfolding enough
+true-enough n f cards l = le-leb n _ (omega arith)
