@@ -19,19 +19,20 @@ pub fn beat(
     let group = Group::outermost(n, f, c)?;
     check_broken(n, f, broken)?;
     let words = params::words(group.f);
-    let (liars, sound): (Vec<_>, Vec<_>) = (0..group.n).partition(|&card| is_broken(broken, card));
+    let (broken_cards, sound_cards): (Vec<_>, Vec<_>) =
+        (0..group.n).partition(|&card| is_broken(broken, card));
     Refusal::Records.when(records.len() != group.n * words)?;
-    Refusal::BrokenWords.when(sent.len() != group.n * liars.len() * words)?;
+    Refusal::BrokenWords.when(sent.len() != group.n * broken_cards.len() * words)?;
     Refusal::OutputLength.when(out.len() != records.len())?;
 
     // "Broken cards' held records stay unchanged."
     out.copy_from_slice(records);
-    for card in sound {
+    for card in sound_cards {
         // "A sound card is heard as held."
         let mut heard: Vec<&[u16]> = records.chunks_exact(words).collect();
-        for (place, &liar) in liars.iter().enumerate() {
-            let start = (card * liars.len() + place) * words;
-            heard[liar] = &sent[start..start + words];
+        for (place, &broken_card) in broken_cards.iter().enumerate() {
+            let start = (card * broken_cards.len() + place) * words;
+            heard[broken_card] = &sent[start..start + words];
         }
         group.step(card, &heard, &mut out[card * words..(card + 1) * words]);
     }
