@@ -1,2 +1,5 @@
 pub mod Sent
 pub mod Tallies
+pub mod Places
+pub mod Rows
+pub mod Standings

@@ -12,10 +12,11 @@ ghost use Prim.Native.Nat.{ℕ, _+_, _<_, _≤_, min};
 ghost use lib.ListN.{length};
 ghost use lib.Seq.{sets};
 ghost use Rattle.rules.specs.Parameters.{turn};
-ghost use Rattle.rules.specs.Groups.{readVote, halfOf, wordOf, bitOf};
-ghost use Rattle.rules.specs.OneBeat.{cooldown, trusted, phase};
+ghost use Rattle.rules.specs.Groups.{halfModulus, halfOf, wordOf, bitOf};
+ghost use Rattle.rules.specs.OneBeat.{cooldown, trusted, phase, nextM, nextVote, nextStanding};
 ghost use Rattle.params.specs.Answers.{rowRead};
 ghost use Rattle.level.specs.Groups.{Split, heardBy};
+ghost use Rattle.level.specs.Standings.{standing};
 ghost use Rattle.level.specs.Levels.{levelRead, levelAfter, votedZero, votedOne, wordsOf};
 
 // What a card keeps of a split group: m0 m1 M0 M1 w0 w1 a b, as document 01 reads them.
@@ -98,12 +99,12 @@ fn at_most(word: u16, most: u16) -> u16
     if word < most { word } else { most }
 }
 
-// The vote that a word of one of the group's cards is read as.
-fn vote_at(recs: &[u16], g: Group, j: usize, card: usize, m: u32) -> Vote
+// The word j of a card of the group.
+fn word_at(recs: &[u16], g: Group, card: usize, j: usize) -> u16
     requires { ⌜ (Split (length (now recs)) g) × (card < g .n) × (j < 8) ⌝ }
-    ensures { λ r. ⌜ r ≡ readVote m (heardBy (now (recs .entry)) g card j) ⌝ }
+    ensures { λ r. ⌜ r ≡ heardBy (now (recs .entry)) g card j ⌝ }
 {
-    column::read_vote(m, column::said(recs, group::column(g, j), card))
+    column::said(recs, group::column(g, j), card)
 }
 
 // The level that a card of the group keeps, from its eight words.
@@ -112,14 +113,14 @@ fn read_level(recs: &[u16], g: Group, card: usize, row: Row) -> Level
     ensures { λ r. ⌜ r ≡ levelRead (g .f) (g .c) (heardBy (now (recs .entry)) g card) ⌝ }
 {
     Level {
-        m0: column::said(recs, group::column(g, 0), card),
-        m1: column::said(recs, group::column(g, 1), card),
-        vote0: vote_at(recs, g, 2, card, row.c0 as u32),
-        vote1: vote_at(recs, g, 3, card, row.c1 as u32),
-        wait0: at_most(column::said(recs, group::column(g, 4), card), row.restart),
-        wait1: at_most(column::said(recs, group::column(g, 5), card), row.restart),
-        a: vote_at(recs, g, 6, card, g.c),
-        b: column::said(recs, group::column(g, 7), card) == 1,
+        m0: word_at(recs, g, card, 0),
+        m1: word_at(recs, g, card, 1),
+        vote0: column::read_vote(row.c0 as u32, word_at(recs, g, card, 2)),
+        vote1: column::read_vote(row.c1 as u32, word_at(recs, g, card, 3)),
+        wait0: at_most(word_at(recs, g, card, 4), row.restart),
+        wait1: at_most(word_at(recs, g, card, 5), row.restart),
+        a: column::read_vote(g.c, word_at(recs, g, card, 6)),
+        b: word_at(recs, g, card, 7) == 1,
     }
 }
 
@@ -138,6 +139,45 @@ impl Level {
     }
 }
 
+// mi
+fn next_m0(recs: &[u16], g: Group, row: Row) -> u16
+    requires { ⌜ (Split (length (now recs)) g) × (row ≡ rowRead (g .f)) ⌝ }
+    ensures { λ r. ⌜ r ≡ nextM 0 (g .n) (g .f) (heardBy (now (recs .entry)) g) ⌝ }
+{
+    column::most_frequent(recs, group::outputs_of_zero(g), row.c0 as usize)
+}
+
+fn next_m1(recs: &[u16], g: Group, row: Row) -> u16
+    requires { ⌜ (Split (length (now recs)) g) × (row ≡ rowRead (g .f)) ⌝ }
+    ensures { λ r. ⌜ r ≡ nextM 1 (g .n) (g .f) (heardBy (now (recs .entry)) g) ⌝ }
+{
+    column::most_frequent(recs, group::outputs_of_one(g), row.c1 as usize)
+}
+
+// Mi, by the m that the cards sent.
+fn next_vote(recs: &[u16], g: Group, half: usize, m: u16) -> Vote
+    requires { ⌜ (Split (length (now recs)) g) × (half < 2) × (m ≡ halfModulus half (g .f)) ⌝ }
+    ensures { λ r. ⌜ r ≡ nextVote half (g .n) (g .f) (heardBy (now (recs .entry)) g) ⌝ }
+{
+    column::vote_of(recs, group::column(g, half), g.f as usize, m as usize)
+}
+
+// a and b, by the step that the old M and w pick.
+fn next_stand(recs: &[u16], g: Group, card: usize, own: Level, row: Row) -> Stand
+    requires { ⌜ (Split (length (now recs)) g) × (card < g .n) × (row ≡ rowRead (g .f)) × (own ≡ levelRead (g .f) (g .c) (heardBy (now recs) g card)) ⌝ }
+    ensures { λ r. ⌜ standing r ≡ nextStanding (g .n) (g .f) (g .c) (heardBy (now (recs .entry)) g) card ⌝ }
+{
+    let d = own.phase(g, card, row);
+    let a = own.a;
+    let old = Stand { a: a, b: own.b };
+    let s = steps::three_steps(recs, group::column(g, 6), g.f, g.c, d, old);
+    let stepped = s.a;
+    Stand {
+        a: steps::gain(g.c, stepped),
+        b: s.b,
+    }
+}
+
 // The level after the beat: everything on the right is from before it.
 pub fn next_level(recs: &[u16], g: Group, card: usize) -> Level
     requires { ⌜ (Split (length (now recs)) g) × (card < g .n) ⌝ }
@@ -145,29 +185,20 @@ pub fn next_level(recs: &[u16], g: Group, card: usize) -> Level
 {
     let row = params::row_of(g.f);
     let own = read_level(recs, g, card, row);
-    let a = own.a;
-    let d = own.phase(g, card, row);
-    let s = steps::three_steps(
-        recs,
-        group::column(g, 6),
-        g.f,
-        g.c,
-        d,
-        Stand { a: a, b: own.b },
-    );
-    let vote0 = column::vote_of(recs, group::column(g, 0), g.f as usize, row.c0 as usize);
-    let vote1 = column::vote_of(recs, group::column(g, 1), g.f as usize, row.c1 as usize);
-    let next = own.voted_zero(vote0, row).voted_one(vote1, row);
-    let a_after = s.a;
+    let stand = next_stand(recs, g, card, own, row);
+    let vote0 = next_vote(recs, g, 0, row.c0);
+    let vote1 = next_vote(recs, g, 1, row.c1);
+    let voted = own.voted_zero(vote0, row).voted_one(vote1, row);
+    let a = stand.a;
     Level {
-        m0: column::most_frequent(recs, group::outputs_of_zero(g), row.c0 as usize),
-        m1: column::most_frequent(recs, group::outputs_of_one(g), row.c1 as usize),
+        m0: next_m0(recs, g, row),
+        m1: next_m1(recs, g, row),
         vote0: vote0,
         vote1: vote1,
-        wait0: next.wait0,
-        wait1: next.wait1,
-        a: steps::gain(g.c, a_after),
-        b: s.b,
+        wait0: voted.wait0,
+        wait1: voted.wait1,
+        a: a,
+        b: stand.b,
     }
 }
 

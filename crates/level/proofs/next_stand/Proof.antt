@@ -1,0 +1,51 @@
+-- `level::next_stand` meets its contract. Assumes nothing.
+use borrow.Author.Needs.{needs}
+use native.Mathlib.Omega.{arith}
+use Prim.Native.Nat.{_/_, _<_}
+use native.Mathlib.Nat.{mod-lt}
+use mathlib.Core.Path.{_∙_}
+use Rattle.rules.specs.Parameters.{turn}
+use Rattle.rules.specs.OneBeat.{phase, keptD}
+use Rattle.level.specs.Groups.{heardBy}
+use Rattle.level.specs.Standings.{standing}
+use Rattle.level.proofs.Standings.{stand-is}
+use Rattle.level.proofs.Places.{split-place, column-within}
+use Rattle.level.proofs.Rows.{RowOf, row-is}
+use Rattle.level.proofs.next_stand.Statement.{statement}
+use Rattle.level.proofs.next_stand.Tie as tie
+
+row : (c : tie.Start) → RowOf (c .args .g .f) (c .args .row)
+row c = row-is (c .args .g .f) (c .args .row) (c .pre .0 .some) (c .pre .2)
+
+-- the king is a card of the group
+king : (c : tie.After-phase) → c .phase .result / 3 < c .before .before .args .g .n
+unfolding phase
+king c =
+    let s = c .before .before in
+    let f = s .args .g .f in
+    let below : c .phase .result < turn f = rw (c .phase .ensures) (mod-lt _ (omega arith)) in
+    omega (arith, s .pre .0 .fits .few, s .pre .0 .some)
+
+returns : tie.Need-returns
+unfolding keptD
+returns c =
+    let s = c .before .before .before .before .before in
+    let g = s .args .g in
+    let own = s .pre .3 in
+    stand-is (g .n) (g .f) (g .c) (heardBy (s .args .recs .now) g) (s .args .card) (c .before .before .before .phase .result) (c .gain .result)
+    (standing (c .before .three-steps .result)) (s .pre .0 .some)
+    (c .before .before .before .phase .ensures ∙ rw own)
+    (c .before .three-steps .ensures ∙ rw (c .before .before .column .ensures, own))
+    (c .gain .ensures)
+
+pub next-stand-spec : {M : Type 1} → statement M
+next-stand-spec =
+    tie.close
+    (tie.spec
+    (λ c κs. let r = row (c .before) in (r .t, omega (arith, r .t, c .before .pre .0 .fits .broken)))
+    (λ c κs. split-place (c .before .before .pre .0) 6 (omega arith))
+    (λ c κs. let s = c .before .before .before in
+    let g = s .pre .0 .fits in
+    rw (c .column .ensures) (column-within (s .pre .0) 6 (omega arith), omega (arith, g .broken), g .modulus, king (c .before)))
+    (λ c κs. search needs)
+    returns)

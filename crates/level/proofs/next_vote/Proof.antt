@@ -1,0 +1,34 @@
+-- `level::next_vote` meets its contract. Assumes nothing.
+use borrow.Author.Needs.{needs}
+use mathlib.Core.Path.{_≡_}
+use Prim.Native.Nat.{ℕ, zero, suc, _≤_}
+use native.Mathlib.Omega.{arith}
+use borrow.Author.Tests.{ne-eqb}
+use Rattle.rules.specs.Parameters.{mostBroken}
+use Rattle.rules.specs.Groups.{halfModulus}
+use Rattle.rules.specs.OneBeat.{nextVote}
+use Rattle.level.proofs.Places.{split-place, column-within}
+use Rattle.level.proofs.next_vote.Statement.{statement}
+use Rattle.level.proofs.next_vote.Tie as tie
+
+-- a tally has room for it
+modulus-small : (i f : ℕ) → f ≤ mostBroken → halfModulus i f ≤ 128
+modulus-small zero f l = omega arith
+modulus-small (suc i) f l = rw (ne-eqb (suc i) 0 (omega arith)) (omega arith)
+
+returns : tie.Need-returns
+unfolding nextVote
+returns c =
+    let s = c .before .before .before .before in
+    rw (c .vote-of .ensures, c .before .before .column .ensures, s .pre .2)
+
+pub next-vote-spec : {M : Type 1} → statement M
+next-vote-spec =
+    tie.close
+    (tie.spec
+    (λ c κs. split-place (c .before .pre .0) (c .before .args .half) (omega arith))
+    (λ c. search needs)
+    (λ c κs. let s = c .before .before .before in
+    let few = s .pre .0 .fits .few in
+    rw (c .before .column .ensures, s .pre .2) (column-within (s .pre .0) (s .args .half) (omega arith), few, modulus-small (s .args .half) (s .args .g .f) (s .pre .0 .fits .broken)))
+    returns)

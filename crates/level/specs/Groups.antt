@@ -1,0 +1,43 @@
+-- A group's place in a table of records, and what is heard there. Assumes nothing.
+use mathlib.Core.List.{List}
+use Prim.Native.Nat.{ℕ, _+_, _*_, _≤_, _<_}
+use Rattle.rules.specs.Parameters.{mostBroken, mostModulus, recordWords}
+use Rattle.rules.specs.Groups.{heardFrom, heardIn, halfCards, halfFirst, halfBroken, outputPlace}
+use Rattle.level.specs.declared.column.Column.{Column}
+use Rattle.level.specs.declared.group.Group.{Group}
+
+-- what is heard of the group's cards
+abbrev pub heardBy : List ℕ → Group → ℕ → ℕ → ℕ
+heardBy recs g = heardFrom (heardIn (g .w) recs) (g .first) (g .base)
+
+-- the word j of the group's cards
+abbrev pub columnOf : Group → ℕ → Column
+columnOf g j = record { cards = g .cards; w = g .w; first = g .first; n = g .n; at = g .base + j }
+
+-- the outputs of half i
+abbrev pub halfColumn : ℕ → Group → Column
+halfColumn i g =
+    record {
+      cards = g .cards;
+      w = g .w;
+      first = g .first + halfFirst i (g .n);
+      n = halfCards i (g .n);
+      at = g .base + 8 + outputPlace (halfBroken i (g .f));
+    }
+
+-- the group lies within a table of so many words, and its f is allowed
+pub record Fits (size : ℕ) (g : Group) : Type 0 where
+  pub table : g .cards * g .w ≤ size
+  pub rows : g .first + g .n ≤ g .cards
+  pub words : g .base + recordWords (g .f) ≤ g .w
+  pub few : 3 * g .f < g .n
+  pub small : g .cards < 256
+  pub narrow : g .w < 256
+  pub broken : g .f ≤ mostBroken
+  pub two : 2 ≤ g .c
+  pub modulus : g .c ≤ mostModulus
+
+-- and it is split
+pub record Split (size : ℕ) (g : Group) : Type 0 where
+  pub fits : Fits size g
+  pub some : 1 ≤ g .f
