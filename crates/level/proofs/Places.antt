@@ -8,14 +8,14 @@ use native.Mathlib.Nat.{add-zero, add-assoc}
 use native.Mathlib.Omega.{arith}
 use lib.Dec.{eqb}
 use borrow.Author.Tests.{ne-eqb, eqb-false}
-use Rattle.rules.specs.declared.Vote.{Vote}
 use Rattle.rules.specs.Parameters.{binaryDigits, recordWords}
-use Rattle.rules.specs.Groups.{halfFirst, halfCards, halfBroken, halfModulus, heardInHalf, outputPlace, outputOf, readVote}
+use Rattle.rules.specs.Groups.{halfFirst, halfCards, halfBroken, halfModulus, heardInHalf, outputPlace, outputOf}
+use Rattle.rules.specs.OneBeat.{mostFrequent, nextM}
 use Rattle.rules.proofs.Tests.{decided}
 use Rattle.rules.proofs.Digits.{digits-half, digits-mono}
 use Rattle.level.specs.declared.group.Group.{Group}
-use Rattle.level.specs.Columns.{Within, votesIn}
-use Rattle.level.specs.Groups.{Split, heardBy, columnOf, halfColumn}
+use Rattle.level.specs.Columns.{Within}
+use Rattle.level.specs.Groups.{Fits, Split, heardBy, columnOf, halfGroup, outputsOf}
 
 -- a split group has its eight words, and a group's output stands in its words
 pub eight-words : (f : ℕ) → 1 ≤ f → 8 < recordWords f
@@ -40,26 +40,55 @@ pub column-within : {size : ℕ} {g : Group} → Split size g → (j : ℕ) → 
 column-within s j l =
     record { table = s .fits .table; rows = s .fits .rows; place = split-place s j l; few = omega (arith, s .fits .rows, s .fits .small) }
 
-pub half-within : {size : ℕ} {g : Group} → Split size g → (i : ℕ) → i < 2 → Within size (halfColumn i g)
-half-within {g = g} s zero l =
+-- a half of a group that fits, fits
+pub half-fits : {size : ℕ} {g : Group} → Split size g → (i : ℕ) → i < 2 → Fits size (halfGroup i g)
+half-fits {g = g} s zero l =
+    let t = s .fits in
     record {
-      table = s .fits .table;
-      rows = omega (arith, s .fits .rows);
-      place = omega (arith, half-inside 0 (g .f) (s .some) l, output-inside (halfBroken 0 (g .f)), s .fits .words);
-      few = omega (arith, s .fits .rows, s .fits .small);
+      table = t .table;
+      rows = omega (arith, t .rows);
+      words = omega (arith, half-inside 0 (g .f) (s .some) l, t .words);
+      few = omega (arith, t .few);
+      small = t .small;
+      narrow = t .narrow;
+      broken = omega (arith, t .broken);
+      two = omega arith;
+      modulus = omega (arith, t .broken);
     }
-half-within {g = g} s (suc zero) l =
+half-fits {g = g} s (suc zero) l =
+    let t = s .fits in
     record {
-      table = s .fits .table;
-      rows = omega (arith, s .fits .rows);
-      place = omega (arith, half-inside 1 (g .f) (s .some) l, output-inside (halfBroken 1 (g .f)), s .fits .words);
-      few = omega (arith, s .fits .rows, s .fits .small);
+      table = t .table;
+      rows = omega (arith, t .rows);
+      words = omega (arith, half-inside 1 (g .f) (s .some) l, t .words);
+      few = omega (arith, t .few, s .some);
+      small = t .small;
+      narrow = t .narrow;
+      broken = omega (arith, t .broken);
+      two = omega arith;
+      modulus = omega (arith, t .broken);
     }
-half-within s (suc (suc i)) l = absurd (omega arith)
+half-fits s (suc (suc i)) l = absurd (omega arith)
 
--- the outputs that the group hears of half i
-pub half-votes : (recs : List ℕ) (g : Group) (i m : ℕ)
-    → votesIn m recs (halfColumn i g) ≡ (λ (u : ℕ). outputOf (halfBroken i (g .f)) m (heardInHalf i (g .n) (heardBy recs g) u))
-half-votes recs g i m =
-    fun-ext
-    (λ u. rw (add-assoc (g .first) (halfFirst i (g .n)) u, add-assoc (g .base) 8 (outputPlace (halfBroken i (g .f)))))
+pub outputs-within : {size : ℕ} {g : Group} → Fits size g → Within size (outputsOf g)
+outputs-within {g = g} t =
+    record {
+      table = t .table;
+      rows = t .rows;
+      place = omega (arith, output-inside (g .f), t .words);
+      few = omega (arith, t .rows, t .small);
+    }
+
+-- what is heard of a half is what the group hears of it
+pub half-heard : (recs : List ℕ) (g : Group) (i : ℕ) → heardBy recs (halfGroup i g) ≡ heardInHalf i (g .n) (heardBy recs g)
+half-heard recs g i =
+    fun-ext (λ u. fun-ext (λ j. rw (add-assoc (g .first) (halfFirst i (g .n)) u, add-assoc (g .base) 8 j)))
+
+-- so the most frequent output of a half is the group's m of it
+pub half-common : (recs : List ℕ) (g h : Group) (i : ℕ) → h ≡ halfGroup i g
+    → mostFrequent (h .c) (h .n) (λ (u : ℕ). outputOf (h .f) (h .c) (heardBy recs h u)) ≡ nextM i (g .n) (g .f) (heardBy recs g)
+unfolding nextM
+half-common recs g h i e =
+    rw e
+    (ap (λ (hear : ℕ → ℕ → ℕ). mostFrequent (halfModulus i (g .f)) (halfCards i (g .n)) (λ (u : ℕ). outputOf (halfBroken i (g .f)) (halfModulus i (g .f)) (hear u)))
+    (half-heard recs g i))

@@ -2,7 +2,7 @@
 use mathlib.Core.List.{List}
 use Prim.Native.Nat.{ℕ, _+_, _*_, _≤_, _<_}
 use Rattle.rules.specs.Parameters.{mostBroken, mostModulus, recordWords}
-use Rattle.rules.specs.Groups.{heardFrom, heardIn, halfCards, halfFirst, halfBroken, outputPlace}
+use Rattle.rules.specs.Groups.{heardFrom, heardIn, halfCards, halfFirst, halfBroken, halfModulus, outputPlace}
 use Rattle.level.specs.declared.column.Column.{Column}
 use Rattle.level.specs.declared.group.Group.{Group}
 
@@ -14,16 +14,22 @@ heardBy recs g = heardFrom (heardIn (g .w) recs) (g .first) (g .base)
 abbrev pub columnOf : Group → ℕ → Column
 columnOf g j = record { cards = g .cards; w = g .w; first = g .first; n = g .n; at = g .base + j }
 
--- the outputs of half i
-abbrev pub halfColumn : ℕ → Group → Column
-halfColumn i g =
+-- half i of a group
+abbrev pub halfGroup : ℕ → Group → Group
+halfGroup i g =
     record {
       cards = g .cards;
       w = g .w;
       first = g .first + halfFirst i (g .n);
+      base = g .base + 8;
       n = halfCards i (g .n);
-      at = g .base + 8 + outputPlace (halfBroken i (g .f));
+      f = halfBroken i (g .f);
+      c = halfModulus i (g .f);
     }
+
+-- the outputs of a group's cards
+abbrev pub outputsOf : Group → Column
+outputsOf g = columnOf g (outputPlace (g .f))
 
 -- the group lies within a table of so many words, and its f is allowed
 pub record Fits (size : ℕ) (g : Group) : Type 0 where

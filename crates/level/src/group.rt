@@ -1,8 +1,8 @@
 use crate::column::Column;
 ghost use mathlib.Core.Path.{_≡_};
 ghost use Prim.Native.Nat.{ℕ, _+_, _*_, _<_, _≤_};
-ghost use Rattle.rules.specs.Groups.{outputPlace};
-ghost use Rattle.level.specs.Groups.{columnOf, halfColumn};
+ghost use Rattle.rules.specs.Groups.{halfModulus, outputPlace};
+ghost use Rattle.level.specs.Groups.{columnOf, halfGroup};
 
 // A group of n cards in a table of `cards` records of w words: the cards from `first` on, and their words from `base` on.
 pub struct Group {
@@ -29,37 +29,41 @@ pub fn column(g: Group, j: usize) -> Column
     }
 }
 
-// Where the output stands in a group's words: in its one word, or in the seventh of its eight.
-fn output_place(f: u32) -> usize
-    ensures { λ r. ⌜ (r ≡ outputPlace f) × (r ≤ 6) ⌝ }
+// Half 0: "the first n/2 cards (rounded down) with f0 = (f-1)/2 rounded down and modulus c0".
+pub fn half_zero(g: Group, c0: u16) -> Group
+    requires { ⌜ (1 ≤ g .f) × (g .base < 256) × (c0 ≡ halfModulus 0 (g .f)) ⌝ }
+    ensures { λ r. ⌜ r ≡ halfGroup 0 g ⌝ }
 {
-    if f == 0 { 0 } else { 6 }
-}
-
-// The outputs of half 0: "the first n/2 cards (rounded down)".
-pub fn outputs_of_zero(g: Group) -> Column
-    requires { ⌜ (1 ≤ g .f) × (g .base + 8 + 6 < 65536) ⌝ }
-    ensures { λ r. ⌜ r ≡ halfColumn 0 g ⌝ }
-{
-    Column {
+    Group {
         cards: g.cards,
         w: g.w,
         first: g.first,
+        base: g.base + 8,
         n: g.n / 2,
-        at: g.base + 8 + output_place((g.f - 1) / 2),
+        f: (g.f - 1) / 2,
+        c: c0 as u32,
     }
 }
 
-// The outputs of half 1: "the rest".
-pub fn outputs_of_one(g: Group) -> Column
-    requires { ⌜ (1 ≤ g .f) × (g .base + 8 + 6 < 65536) × (g .first + g .n < 65536) ⌝ }
-    ensures { λ r. ⌜ r ≡ halfColumn 1 g ⌝ }
+// Half 1: "the rest with f1 = (f-1)/2 rounded up and modulus c1".
+pub fn half_one(g: Group, c1: u16) -> Group
+    requires { ⌜ (1 ≤ g .f) × (g .base < 256) × (g .first + g .n < 256) × (c1 ≡ halfModulus 1 (g .f)) ⌝ }
+    ensures { λ r. ⌜ r ≡ halfGroup 1 g ⌝ }
 {
-    Column {
+    Group {
         cards: g.cards,
         w: g.w,
         first: g.first + g.n / 2,
+        base: g.base + 8,
         n: g.n - g.n / 2,
-        at: g.base + 8 + output_place(g.f / 2),
+        f: g.f / 2,
+        c: c1 as u32,
     }
+}
+
+// Where the output stands in a group's words: in its one word, or in the seventh of its eight.
+pub fn output_place(f: u32) -> usize
+    ensures { λ r. ⌜ (r ≡ outputPlace f) × (r ≤ 6) ⌝ }
+{
+    if f == 0 { 0 } else { 6 }
 }

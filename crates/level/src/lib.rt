@@ -12,10 +12,10 @@ ghost use Prim.Native.Nat.{ℕ, _+_, _<_, _≤_, min};
 ghost use lib.ListN.{length};
 ghost use lib.Seq.{sets};
 ghost use Rattle.rules.specs.Parameters.{turn};
-ghost use Rattle.rules.specs.Groups.{halfModulus, halfOf, wordOf, bitOf};
-ghost use Rattle.rules.specs.OneBeat.{cooldown, trusted, phase, nextM, nextVote, nextStanding};
+ghost use Rattle.rules.specs.Groups.{halfModulus, halfOf, outputOf, wordOf, bitOf};
+ghost use Rattle.rules.specs.OneBeat.{mostFrequent, cooldown, trusted, phase, nextVote, nextStanding};
 ghost use Rattle.params.specs.Answers.{rowRead};
-ghost use Rattle.level.specs.Groups.{Split, heardBy};
+ghost use Rattle.level.specs.Groups.{Fits, Split, heardBy};
 ghost use Rattle.level.specs.Standings.{standing};
 ghost use Rattle.level.specs.Levels.{levelRead, levelAfter, votedZero, votedOne, wordsOf};
 
@@ -139,19 +139,13 @@ impl Level {
     }
 }
 
-// mi
-fn next_m0(recs: &[u16], g: Group, row: Row) -> u16
-    requires { ⌜ (Split (length (now recs)) g) × (row ≡ rowRead (g .f)) ⌝ }
-    ensures { λ r. ⌜ r ≡ nextM 0 (g .n) (g .f) (heardBy (now (recs .entry)) g) ⌝ }
+// mi, of the half g: "the most frequent output among the cards of half i"
+fn common_output(recs: &[u16], half: Group) -> u16
+    requires { ⌜ (Fits (length (now recs)) half) × (half .c ≤ 128) ⌝ }
+    ensures { λ r. ⌜ r ≡ mostFrequent (half .c) (half .n) (λ (u : ℕ). outputOf (half .f) (half .c) (heardBy (now (recs .entry)) half u)) ⌝ }
 {
-    column::most_frequent(recs, group::outputs_of_zero(g), row.c0 as usize)
-}
-
-fn next_m1(recs: &[u16], g: Group, row: Row) -> u16
-    requires { ⌜ (Split (length (now recs)) g) × (row ≡ rowRead (g .f)) ⌝ }
-    ensures { λ r. ⌜ r ≡ nextM 1 (g .n) (g .f) (heardBy (now (recs .entry)) g) ⌝ }
-{
-    column::most_frequent(recs, group::outputs_of_one(g), row.c1 as usize)
+    let outputs = group::column(half, group::output_place(half.f));
+    column::most_frequent(recs, outputs, half.c as usize)
 }
 
 // Mi, by the m that the cards sent.
@@ -191,8 +185,8 @@ pub fn next_level(recs: &[u16], g: Group, card: usize) -> Level
     let voted = own.voted_zero(vote0, row).voted_one(vote1, row);
     let a = stand.a;
     Level {
-        m0: next_m0(recs, g, row),
-        m1: next_m1(recs, g, row),
+        m0: common_output(recs, group::half_zero(g, row.c0)),
+        m1: common_output(recs, group::half_one(g, row.c1)),
         vote0: vote0,
         vote1: vote1,
         wait0: voted.wait0,

@@ -1,9 +1,11 @@
 -- `level::next_level` meets its contract. Assumes nothing.
 use borrow.Author.Needs.{needs}
-use mathlib.Core.Path.{ap}
+use mathlib.Core.Path.{ap, _∙_}
+use Prim.Native.Nat.{_<_}
 use native.Mathlib.Omega.{arith}
 use Rattle.rules.specs.OneBeat.{Standing, nextWait}
 use Rattle.level.specs.Levels.{levelAfter}
+use Rattle.level.proofs.Places.{split-place, half-fits, half-common}
 use Rattle.level.proofs.Rows.{RowOf, row-is}
 use Rattle.level.proofs.next_level.Statement.{statement}
 use Rattle.level.proofs.next_level.Tie as tie
@@ -11,17 +13,25 @@ use Rattle.level.proofs.next_level.Tie as tie
 row : (c : tie.After-row-of) → RowOf (c .before .before .args .g .f) (c .row-of .result)
 row c = let s = c .before .before in row-is (s .args .g .f) (c .row-of .result) (s .pre .0 .some) (c .row-of .ensures)
 
+narrow : (c : tie.Start) → c .args .g .base < 256
+narrow c = omega (arith, split-place (c .pre .0) 0 (omega arith), c .pre .0 .fits .narrow)
+
 returns : tie.Need-returns
 unfolding levelAfter nextWait
 returns c =
-    let votes = c .before .before .before .before in
+    let voted = c .before .before .before .before in
+    let votes = voted .before .before in
     let stand = votes .before .before in
     let r = row (stand .before .before) in
+    let s = stand .before .before .before .before in
+    let recs = s .args .recs .now in
+    let m0 = c .before .before .common-output .ensures ∙ half-common recs (s .args .g) (c .before .before .before .half-zero .result) 0 (c .before .before .before .half-zero .ensures) in
+    let m1 = c .common-output2 .ensures ∙ half-common recs (s .args .g) (c .before .half-one .result) 1 (c .before .half-one .ensures) in
     simp (
-      c .before .next-m0 .ensures,
-      c .next-m1 .ensures,
-      c .before .before .voted-one .ensures,
-      c .before .before .before .voted-zero .ensures,
+      m1,
+      m0,
+      voted .voted-one .ensures,
+      voted .before .voted-zero .ensures,
       votes .next-vote2 .ensures,
       votes .before .next-vote .ensures,
       stand .before .read-level .ensures,
@@ -43,6 +53,15 @@ next-level-spec =
     (λ c κs. (c .before .before .before .before .before .pre .0, omega arith, row (c .before .before .before) .m1))
     (λ c κs. omega (arith, row (c .before .before .before .before) .m0))
     (λ c κs. omega (arith, row (c .before .before .before .before .before) .m1))
-    (λ c κs. search needs)
-    (λ c κs. search needs)
+    (λ c κs. let r = c .before .before .before .before .before .before in
+    let s = r .before .before in
+    (s .pre .0 .some, narrow s, row r .m0))
+    (λ c κs. let s = c .before .before .before .before .before .before .before .before .before in
+    rw (c .half-zero .ensures) (half-fits (s .pre .0) 0 (omega arith), omega (arith, s .pre .0 .fits .broken)))
+    (λ c κs. let r = c .before .before .before .before .before .before .before .before in
+    let s = r .before .before in
+    let t = s .pre .0 .fits in
+    (s .pre .0 .some, narrow s, omega (arith, t .rows, t .small), row r .m1))
+    (λ c κs. let s = c .before .before .before .before .before .before .before .before .before .before .before in
+    rw (c .half-one .ensures) (half-fits (s .pre .0) 1 (omega arith), omega (arith, s .pre .0 .fits .broken)))
     returns)

@@ -1,0 +1,21 @@
+-- `level::common_output` meets its contract. Assumes nothing.
+use borrow.Author.Needs.{needs}
+use native.Mathlib.Omega.{arith}
+use Rattle.level.proofs.Places.{outputs-within}
+use Rattle.level.proofs.common_output.Statement.{statement}
+use Rattle.level.proofs.common_output.Tie as tie
+
+column-requires : tie.Need-column-requires
+column-requires c κs = rw (c .output-place .ensures .0) (outputs-within (c .before .before .pre .0) .place)
+
+most-requires : tie.Need-most-frequent-requires
+most-requires c κs =
+    let s = c .before .before .before .before in
+    rw (c .before .column .ensures, c .before .before .output-place .ensures .0)
+    (outputs-within (s .pre .0), omega (arith, s .pre .0 .two), s .pre .1)
+
+returns : tie.Need-returns
+returns c = rw (c .most-frequent .ensures, c .before .before .column .ensures, c .before .before .before .output-place .ensures .0)
+
+pub common-output-spec : {M : Type 1} → statement M
+common-output-spec = tie.close (tie.spec (λ c κs. search needs) column-requires (λ c. search needs) most-requires returns)

@@ -1,0 +1,11 @@
+-- `level::group::half_zero` meets its contract. Assumes nothing.
+use borrow.Author.Needs.{needs}
+use native.Mathlib.Nat.{add-zero}
+use Rattle.level.proofs.group.half_zero.Statement.{statement}
+use Rattle.level.proofs.group.half_zero.Tie as tie
+
+returns : tie.Need-returns
+returns c = rw (add-zero, c .before .before .before .pre .2)
+
+pub half-zero-spec : {M : Type 1} → statement M
+half-zero-spec = tie.close (tie.spec (λ c. search needs) (λ c. search needs) returns)
