@@ -12,7 +12,8 @@ use Rattle.rules.specs.Parameters.{binaryDigits, recordWords}
 use Rattle.rules.specs.Groups.{halfFirst, halfCards, halfBroken, halfModulus, heardInHalf, outputPlace, outputOf}
 use Rattle.rules.specs.OneBeat.{mostFrequent, nextM}
 use Rattle.rules.proofs.Tests.{decided}
-use Rattle.rules.proofs.Digits.{digits-half, digits-mono}
+use Rattle.rules.proofs.Digits.{digits-half}
+use Rattle.rules.proofs.Halves.{half-few, half-ends, half-broken, half-modulus, half-words}
 use Rattle.level.specs.declared.group.Group.{Group}
 use Rattle.level.specs.Columns.{Within}
 use Rattle.level.specs.Groups.{Fits, Split, heardBy, columnOf, halfGroup, outputsOf}
@@ -27,12 +28,6 @@ output-inside f = ⊎-elim
     (λ (e : eqb f 0 ≡ false). let ne = eqb-false f 0 e in rw e (omega (arith, eight-words f (omega arith))))
     (decided (eqb f 0))
 
--- a half's words follow the eight of the group
-pub half-inside : (i f : ℕ) → 1 ≤ f → i < 2 → 8 + recordWords (halfBroken i f) ≤ recordWords f
-half-inside zero f l t = omega (arith, digits-half f l, digits-mono ((f - 1) / 2) (f / 2) (omega arith))
-half-inside (suc zero) f l t = let e : (f - 1 + 1) / 2 ≡ f / 2 = omega arith in rw e (omega (arith, digits-half f l))
-half-inside (suc (suc i)) f l t = absurd (omega arith)
-
 pub split-place : {size : ℕ} {g : Group} → Split size g → (j : ℕ) → j ≤ 8 → g .base + j < g .w
 split-place {g = g} s j l = omega (arith, eight-words (g .f) (s .some), s .fits .words)
 
@@ -42,33 +37,20 @@ column-within s j l =
 
 -- a half of a group that fits, fits
 pub half-fits : {size : ℕ} {g : Group} → Split size g → (i : ℕ) → i < 2 → Fits size (halfGroup i g)
-half-fits {g = g} s zero l =
+half-fits {g = g} s i l =
     let t = s .fits in
+    let m = half-modulus i (g .f) l in
     record {
       table = t .table;
-      rows = omega (arith, t .rows);
-      words = omega (arith, half-inside 0 (g .f) (s .some) l, t .words);
-      few = omega (arith, t .few);
+      rows = omega (arith, t .rows, half-ends i (g .n) l);
+      words = omega (arith, half-words i (g .f) l (s .some), t .words);
+      few = half-few i (g .n) (g .f) l (s .some) (t .few);
       small = t .small;
       narrow = t .narrow;
-      broken = omega (arith, t .broken);
-      two = omega arith;
-      modulus = omega (arith, t .broken);
+      broken = omega (arith, half-broken i (g .f) l, t .broken);
+      two = m .0;
+      modulus = omega (arith, m .1, t .broken);
     }
-half-fits {g = g} s (suc zero) l =
-    let t = s .fits in
-    record {
-      table = t .table;
-      rows = omega (arith, t .rows);
-      words = omega (arith, half-inside 1 (g .f) (s .some) l, t .words);
-      few = omega (arith, t .few, s .some);
-      small = t .small;
-      narrow = t .narrow;
-      broken = omega (arith, t .broken);
-      two = omega arith;
-      modulus = omega (arith, t .broken);
-    }
-half-fits s (suc (suc i)) l = absurd (omega arith)
 
 pub outputs-within : {size : ℕ} {g : Group} → Fits size g → Within size (outputsOf g)
 outputs-within {g = g} t =

@@ -4,3 +4,5 @@ pub mod Votes
 pub mod Lists
 pub mod Digits
 pub mod Shapes
+pub mod Halves
+pub mod Records

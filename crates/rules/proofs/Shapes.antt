@@ -1,12 +1,13 @@
 -- What is known of n, f and c where they are not refused. Assumes nothing.
 use mathlib.Core.Path.{_≡_, refl}
 use mathlib.Core.Bool.{Bool, true, false, _||_}
-use Prim.Native.Nat.{ℕ, _*_, _≤_, _<_}
+use Prim.Native.Nat.{ℕ, _*_, _^_, _≤_, _<_}
 use native.Mathlib.Omega.{arith}
 use lib.Dec.{eqb, ltb, leb}
-use borrow.Author.Tests.{eqb-false, ltb-false, leb-false}
-use Rattle.rules.specs.Parameters.{mostCards, mostBroken, leastModulus, mostModulus, badCards, badBroken, badModulus}
-use Rattle.rules.specs.Refusals.{given, paramsRefusal}
+use borrow.Author.Tests.{eqb-true, eqb-false, ltb-false, leb-false, not-false}
+use Rattle.rules.specs.Parameters.{mostCards, mostBroken, leastModulus, mostModulus, recordWords, badCards, badBroken, badModulus}
+use Rattle.rules.specs.WholeBeat.{brokenBelow, badSet, sentWords}
+use Rattle.rules.specs.Refusals.{given, wrong, paramsRefusal, stepRefusal, beatRefusal}
 use Rattle.rules.proofs.Tests.{never}
 
 -- a refusal that is 0: the test did not hold, and nor did those after it
@@ -47,3 +48,68 @@ accepted n f e =
     let p = not-given 1 (badCards n) _ (omega arith) e in
     let q = not-given 2 (badBroken n f) 0 (omega arith) (p .1) in
     good-shape n f (p .0) (q .0)
+
+-- where a whole beat is not refused
+pub record Beat (n f c set held sent out : ℕ) : Type 0 where
+  pub shape : Shape n f
+  pub least : leastModulus ≤ c
+  pub most : c ≤ mostModulus
+  pub set-below : set < 2 ^ n
+  pub set-few : brokenBelow set n ≤ f
+  pub held-whole : held ≡ n * recordWords f
+  pub sent-whole : sent ≡ sentWords n f set
+  pub out-whole : out ≡ n * recordWords f
+
+-- a length that is not wrong
+pub right : (size needed : ℕ) → wrong size needed ≡ false → size ≡ needed
+right size needed e = eqb-true size needed (not-false (eqb size needed) e)
+
+pub beat-accepted : (n f c set held sent out : ℕ) → beatRefusal n f c set held sent out ≡ 0 → Beat n f c set held sent out
+unfolding badSet
+beat-accepted n f c set held sent out e =
+    let p = not-given 1 (badCards n) _ (omega arith) e in
+    let q = not-given 2 (badBroken n f) _ (omega arith) (p .1) in
+    let m = not-given 3 (badModulus c) _ (omega arith) (q .1) in
+    let s = not-given 7 (badSet n f set) _ (omega arith) (m .1) in
+    let h = not-given 5 (wrong held (n * recordWords f)) _ (omega arith) (s .1) in
+    let w = not-given 8 (wrong sent (sentWords n f set)) _ (omega arith) (h .1) in
+    let o = not-given 6 (wrong out (n * recordWords f)) 0 (omega arith) (w .1) in
+    let g = good-modulus c (m .0) in
+    let b = neither (leb (2 ^ n) set) (ltb f (brokenBelow set n)) (s .0) in
+    record {
+      shape = good-shape n f (p .0) (q .0);
+      least = g .0;
+      most = g .1;
+      set-below = leb-false (2 ^ n) set (b .0);
+      set-few = ltb-false f (brokenBelow set n) (b .1);
+      held-whole = right held (n * recordWords f) (h .0);
+      sent-whole = right sent (sentWords n f set) (w .0);
+      out-whole = right out (n * recordWords f) (o .0);
+    }
+
+-- where one card's step is not refused
+pub record Step (n f c card records out : ℕ) : Type 0 where
+  pub shape : Shape n f
+  pub least : leastModulus ≤ c
+  pub most : c ≤ mostModulus
+  pub card-below : card < n
+  pub records-whole : records ≡ n * recordWords f
+  pub out-whole : out ≡ recordWords f
+
+pub step-accepted : (n f c card records out : ℕ) → stepRefusal n f c card records out ≡ 0 → Step n f c card records out
+step-accepted n f c card records out e =
+    let p = not-given 1 (badCards n) _ (omega arith) e in
+    let q = not-given 2 (badBroken n f) _ (omega arith) (p .1) in
+    let m = not-given 3 (badModulus c) _ (omega arith) (q .1) in
+    let k = not-given 4 (leb n card) _ (omega arith) (m .1) in
+    let r = not-given 5 (wrong records (n * recordWords f)) _ (omega arith) (k .1) in
+    let o = not-given 6 (wrong out (recordWords f)) 0 (omega arith) (r .1) in
+    let g = good-modulus c (m .0) in
+    record {
+      shape = good-shape n f (p .0) (q .0);
+      least = g .0;
+      most = g .1;
+      card-below = leb-false n card (k .0);
+      records-whole = right records (n * recordWords f) (r .0);
+      out-whole = right out (recordWords f) (o .0);
+    }

@@ -18,7 +18,7 @@ use Rattle.rules.proofs.Lists.{before-seam, behind-seam}
 use Rattle.settle.specs.Run.{Run}
 use Rattle.settle.proofs.King.{Beat, stepped}
 use Rattle.settle.proofs.Majority.{vote-below}
-use Rattle.settle.proofs.Halves.{each-half, half-modulus, half-words}
+use Rattle.rules.proofs.Halves.{each-half, half-modulus, half-words}
 
 -- the words of the card's half
 abbrev pub halfNext : ℕ → ℕ → ℕ → (ℕ → ℕ → ℕ) → ℕ → ℕ → List ℕ

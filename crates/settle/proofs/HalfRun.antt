@@ -5,7 +5,8 @@ use native.Mathlib.Nat.{add-sub-cancel-left}
 use native.Mathlib.Omega.{arith}
 use Rattle.rules.specs.Groups.{halfCards, halfFirst, halfBroken, halfModulus, heardInHalf}
 use Rattle.settle.specs.Run.{Run}
-use Rattle.settle.proofs.Halves.{halfSound, half-broken, half-inside, half-of, half-words}
+use Rattle.rules.proofs.Halves.{half-broken, half-inside, half-of, half-words}
+use Rattle.settle.proofs.Halves.{halfSound}
 use Rattle.settle.proofs.Fields.{half-word}
 
 module _ (n f c : ℕ) (sound : ℕ → Bool) (pos : 1 ≤ f) (R : Run n f c sound) where

@@ -15,7 +15,8 @@ use Rattle.rules.specs.Groups.{atHalf, halfCards, halfBroken, halfModulus, half
 use Rattle.rules.specs.OneBeat.{span, pointer, pointed, phase, keptD}
 use Rattle.settle.specs.Run.{Cards, Run}
 use Rattle.settle.proofs.Inc.{Counts}
-use Rattle.settle.proofs.Halves.{each-half, other, other-less, halfSound}
+use Rattle.rules.proofs.Halves.{each-half, other, other-less}
+use Rattle.settle.proofs.Halves.{halfSound}
 use Rattle.settle.proofs.Window.{window-zero, window-one}
 use Rattle.settle.proofs.Turn.{whole-turn, phase-counts}
 use Rattle.settle.proofs.Stable.{Stable, stable-counts}

@@ -16,7 +16,8 @@ use Rattle.rules.proofs.Tests.{decided}
 use Rattle.rules.proofs.Votes.{read-is, read-below}
 use Rattle.settle.specs.Run.{Cards, Run}
 use Rattle.settle.proofs.Inc.{Counts}
-use Rattle.settle.proofs.Halves.{halfSound, half-inside, half-modulus}
+use Rattle.rules.proofs.Halves.{half-inside, half-modulus}
+use Rattle.settle.proofs.Halves.{halfSound}
 use Rattle.settle.proofs.Majority.{vote-alike, vote-all, most-frequent}
 use Rattle.settle.proofs.Fields.{m-after, vote-after, wait-after}
 use Rattle.settle.proofs.Stable.{Stable}

@@ -19,7 +19,8 @@ use Rattle.rules.proofs.Votes.{read-below}
 use Rattle.settle.specs.Run.{Cards, Run}
 use Rattle.settle.specs.Statement.{Settles, Persists}
 use Rattle.settle.proofs.Inc.{plus-one, advance, advance-less, advance-mod}
-use Rattle.settle.proofs.Halves.{halfSound, half-broken, half-modulus, one-half, beats-none, beats-split, beats-mono}
+use Rattle.rules.proofs.Halves.{half-broken, half-modulus}
+use Rattle.settle.proofs.Halves.{halfSound, one-half, beats-none, beats-split, beats-mono}
 use Rattle.settle.proofs.King.{Agreed, persist, agree}
 use Rattle.settle.proofs.Fields.{standing, phaseAt, beat}
 use Rattle.settle.proofs.HalfRun.{halfRun}
