@@ -31,6 +31,13 @@ output-inside f = ⊎-elim
 pub split-place : {size : ℕ} {g : Group} → Split size g → (j : ℕ) → j ≤ 8 → g .base + j < g .w
 split-place {g = g} s j l = omega (arith, eight-words (g .f) (s .some), s .fits .words)
 
+-- and its numbers are small
+pub split-narrow : {size : ℕ} {g : Group} → Split size g → g .base < 256
+split-narrow s = omega (arith, split-place s 0 (omega arith), s .fits .narrow)
+
+pub split-cards : {size : ℕ} {g : Group} → Split size g → g .first + g .n < 256
+split-cards s = omega (arith, s .fits .rows, s .fits .small)
+
 pub column-within : {size : ℕ} {g : Group} → Split size g → (j : ℕ) → j ≤ 8 → Within size (columnOf g j)
 column-within s j l =
     record { table = s .fits .table; rows = s .fits .rows; place = split-place s j l; few = omega (arith, s .fits .rows, s .fits .small) }
@@ -60,6 +67,11 @@ outputs-within {g = g} t =
       place = omega (arith, output-inside (g .f), t .words);
       few = omega (arith, t .rows, t .small);
     }
+
+-- the first of a group's words
+pub base-within : {size : ℕ} {g : Group} → Fits size g → Within size (columnOf g 0)
+base-within t =
+    record { table = t .table; rows = t .rows; place = omega (arith, t .words); few = omega (arith, t .rows, t .small) }
 
 -- what is heard of a half is what the group hears of it
 pub half-heard : (recs : List ℕ) (g : Group) (i : ℕ) → heardBy recs (halfGroup i g) ≡ heardInHalf i (g .n) (heardBy recs g)

@@ -1,20 +1,16 @@
 -- `level::next_level` meets its contract. Assumes nothing.
 use borrow.Author.Needs.{needs}
 use mathlib.Core.Path.{ap, _∙_}
-use Prim.Native.Nat.{_<_}
 use native.Mathlib.Omega.{arith}
 use Rattle.rules.specs.OneBeat.{Standing, nextWait}
 use Rattle.level.specs.Levels.{levelAfter}
-use Rattle.level.proofs.Places.{split-place, half-fits, half-common}
+use Rattle.level.proofs.Places.{split-narrow, split-cards, half-fits, half-common}
 use Rattle.level.proofs.Rows.{RowOf, row-is}
 use Rattle.level.proofs.next_level.Statement.{statement}
 use Rattle.level.proofs.next_level.Tie as tie
 
 row : (c : tie.After-row-of) → RowOf (c .before .before .args .g .f) (c .row-of .result)
 row c = let s = c .before .before in row-is (s .args .g .f) (c .row-of .result) (s .pre .0 .some) (c .row-of .ensures)
-
-narrow : (c : tie.Start) → c .args .g .base < 256
-narrow c = omega (arith, split-place (c .pre .0) 0 (omega arith), c .pre .0 .fits .narrow)
 
 returns : tie.Need-returns
 unfolding levelAfter nextWait
@@ -55,13 +51,13 @@ next-level-spec =
     (λ c κs. omega (arith, row (c .before .before .before .before .before) .m1))
     (λ c κs. let r = c .before .before .before .before .before .before in
     let s = r .before .before in
-    (s .pre .0 .some, narrow s, row r .m0))
+    (s .pre .0 .some, split-narrow (s .pre .0), row r .m0))
     (λ c κs. let s = c .before .before .before .before .before .before .before .before .before in
     rw (c .half-zero .ensures) (half-fits (s .pre .0) 0 (omega arith), omega (arith, s .pre .0 .fits .broken)))
     (λ c κs. let r = c .before .before .before .before .before .before .before .before in
     let s = r .before .before in
     let t = s .pre .0 .fits in
-    (s .pre .0 .some, narrow s, omega (arith, t .rows, t .small), row r .m1))
+    (s .pre .0 .some, split-narrow (s .pre .0), split-cards (s .pre .0), row r .m1))
     (λ c κs. let s = c .before .before .before .before .before .before .before .before .before .before .before in
     rw (c .half-one .ensures) (half-fits (s .pre .0) 1 (omega arith), omega (arith, s .pre .0 .fits .broken)))
     returns)
