@@ -1,0 +1,66 @@
+-- What is written reads back, and no second text reads as the same record. Assumes nothing.
+use mathlib.Core.Path.{_≡_, sym, ap, _∙_}
+use mathlib.Core.Bool.{true}
+use mathlib.Core.List.{List}
+use Prim.Native.Nat.{ℕ, _+_, _*_, _/_, _%_, _<_}
+use native.Mathlib.Omega.{arith}
+use borrow.Author.Tests.{eqb-true, eq-eqb}
+use lib.Dec.{eqb}
+use lib.ListN.{length, getD, drop}
+use lib.Seq.{ext-getD, getD-take, getD-drop}
+use Rattle.rules.specs.Text.{hexOf, allDigits, wellFormed, textOf, wordsAt}
+use Rattle.rules.proofs.Tests.{and-left, and-right, and-both}
+use Rattle.text.proofs.Hexadecimal.{digit-at, digits-all, hex-length, hex-digits, hex-of-number, number-of-hex, number-same, number-below}
+use Rattle.text.proofs.WordsOfText.{words-length, word-in, text-length, digit-in}
+
+-- what "not refused by 10" says
+pub formed : (size : ℕ) (text : List ℕ) → wellFormed size text ≡ true → (length text ≡ size) × (allDigits text ≡ true)
+unfolding wellFormed
+formed size text e =
+    (eqb-true (length text) size (and-left (eqb (length text) size) (allDigits text) e), and-right (eqb (length text) size) (allDigits text) e)
+
+-- the text of any words is well formed
+pub written-formed : (words : List ℕ) → wellFormed (4 * length words) (textOf words) ≡ true
+unfolding wellFormed
+written-formed words =
+    and-both (eqb (length (textOf words)) (4 * length words)) (allDigits (textOf words))
+    (eq-eqb (length (textOf words)) (4 * length words) (text-length words))
+    (digits-all (textOf words) (λ p l.
+    let w = getD words (p / 4) 0 in
+    rw (digit-in words (p / 4) (p % 4) p (omega arith) (omega (arith, text-length words)) (omega arith))
+    (digit-at (hexOf 4 w) (hex-digits 4 w) (p % 4) (omega (arith, hex-length 4 w)))))
+
+-- what is written reads back: words of 16 bits are kept as they are, in range or not
+pub reads-back : (words : List ℕ) → ((i : ℕ) → i < length words → getD words i 0 < 65536) → wordsAt (textOf words) 0 (length words) ≡ words
+reads-back words h =
+    ext-getD 0 (wordsAt (textOf words) 0 (length words)) words (words-length (textOf words) 0 (length words)) (λ i l.
+    let li : i < length words = omega (arith, words-length (textOf words) 0 (length words)) in
+    let w = getD words i 0 in
+    word-in (textOf words) 0 (length words) i li
+    ∙ number-same (textOf words) (hexOf 4 w) (0 + 4 * i) 0 4 (λ j lj. digit-in words i (0 + j) (0 + 4 * i + j) (omega arith) li (omega arith))
+    ∙ number-of-hex 4 w (h i li))
+
+-- no second text: a text that is read is the text of what it reads as
+pub no-second-text : (k : ℕ) (text : List ℕ) → wellFormed (4 * k) text ≡ true → textOf (wordsAt text 0 k) ≡ text
+no-second-text k text e =
+    let t = formed (4 * k) text e in
+    let words = wordsAt text 0 k in
+    let n : length words ≡ k = words-length text 0 k in
+    let size : length (textOf words) ≡ 4 * k = omega (arith, text-length words) in
+    ext-getD 0 (textOf words) text (size ∙ sym (t .0)) (λ p l.
+    let i = p / 4 in
+    let li : i < k = omega arith in
+    let at : ℕ = 0 + 4 * i in
+    let q : at + p % 4 ≡ p = omega arith in
+    digit-in words i (p % 4) p (omega arith) (omega arith) (omega arith)
+    ∙ rw (word-in text 0 k i li, hex-of-number text at 4 (t .1) (omega arith), getD-take 4 (drop at text) (p % 4) 0 (omega arith), getD-drop at text (p % 4) 0, q))
+
+-- so two texts that read as the same record are the same
+pub same-record-same-text : (k : ℕ) (s t : List ℕ) → wellFormed (4 * k) s ≡ true → wellFormed (4 * k) t ≡ true → wordsAt s 0 k ≡ wordsAt t 0 k → s ≡ t
+same-record-same-text k s t p q e = sym (no-second-text k s p) ∙ ap textOf e ∙ no-second-text k t q
+
+-- a word that is read has 16 bits
+pub words-below : (k : ℕ) (text : List ℕ) → wellFormed (4 * k) text ≡ true → (i : ℕ) → i < k → getD (wordsAt text 0 k) i 0 < 65536
+words-below k text e i l =
+    let t = formed (4 * k) text e in
+    rw (word-in text 0 k i l) (number-below text (0 + 4 * i) 4 (t .1) (omega arith))

@@ -1,0 +1,56 @@
+-- `text::digits::number_at` meets its contract: eight digits fit 32 bits. Assumes nothing.
+use borrow.Author.Needs.{needs}
+use mathlib.Core.Path.{_≡_, refl}
+use Prim.Native.Nat.{_+_, _*_, _-_, _^_, _≤_, _<_}
+use native.Mathlib.Omega.{arith}
+use lib.ListN.{getD}
+use Rattle.rules.specs.Text.{valueOf, numberAt}
+use Rattle.text.proofs.Hexadecimal.{digit-at, number-more, number-within}
+use Rattle.text.proofs.digits.number_at.Statement.{statement}
+use Rattle.text.proofs.digits.number_at.Tie as tie
+
+abbrev Inv-loop : tie.InvT-loop
+Inv-loop text at digits number₀ i₀ number i = (i ≤ digits) × (number ≡ numberAt text at i)
+
+abbrev μ-loop : tie.MeasureT-loop
+μ-loop text at digits number₀ i₀ number i = digits - i
+
+loop-holds : tie.Need-loop-holds Inv-loop μ-loop
+unfolding numberAt
+loop-holds c = (omega arith, refl)
+
+-- the number with one digit more fits
+below : (c : tie.In-loop Inv-loop μ-loop)
+    → 16 * c .before .loop .number + valueOf (getD (c .before .before .before .args .text .now) (c .before .before .before .args .at + c .before .loop .i) 0) < 16 ^ 8
+below c =
+    let a = c .before .before .before .args in
+    let i = c .before .loop .i in
+    omega (arith, number-more (a .text .now) (a .at) i, number-within (a .text .now) (a .at) (i + 1) 8 (c .before .before .before .pre .0) (omega arith) (omega arith))
+
+loop-again : tie.Need-loop-again Inv-loop μ-loop
+loop-again c =
+    let l = c .before .before .before in
+    let a = l .before .before .args in
+    (omega arith, omega (arith, number-more (a .text .now) (a .at) (l .loop .i)))
+
+returns : tie.Need-returns Inv-loop μ-loop
+returns c =
+    let e : c .before .loop .i ≡ c .before .before .before .args .digits = omega arith in
+    cc
+
+pub number-at-spec : {M : Type 1} → statement M
+number-at-spec =
+    tie.close
+    (tie.spec
+    Inv-loop
+    μ-loop
+    loop-holds
+    (λ c. omega (arith, below c))
+    (λ c. search needs)
+    (λ c. search needs)
+    (λ c κs. digit-at _ (c .before .before .before .before .pre .0) _ (omega arith))
+    (λ c. omega (arith, below (c .before .before)))
+    (λ c. search needs)
+    (λ c. search needs)
+    loop-again
+    returns)
