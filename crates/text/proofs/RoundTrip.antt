@@ -1,5 +1,5 @@
 -- What is written reads back, and no second text reads as the same record. Assumes nothing.
-use mathlib.Core.Path.{_≡_, sym, ap, _∙_}
+use mathlib.Core.Path.{_≡_, refl, sym, ap, _∙_}
 use mathlib.Core.Bool.{true}
 use mathlib.Core.List.{List}
 use Prim.Native.Nat.{ℕ, _+_, _*_, _/_, _%_, _<_}
@@ -8,8 +8,13 @@ use borrow.Author.Tests.{eqb-true, eq-eqb}
 use lib.Dec.{eqb}
 use lib.ListN.{length, getD, drop}
 use lib.Seq.{ext-getD, getD-take, getD-drop}
+use Rattle.rules.specs.Parameters.{recordWords, badCards, badBroken}
+use Rattle.rules.specs.Refusals.{writeRefusal, readRefusal}
+use Rattle.rules.specs.Calls.{writeOut, readOut}
 use Rattle.rules.specs.Text.{hexOf, allDigits, wellFormed, textOf, wordsAt}
 use Rattle.rules.proofs.Tests.{and-left, and-right, and-both}
+use Rattle.rules.proofs.Shapes.{not-given}
+use Rattle.text.proofs.Accepted.{write-accepted}
 use Rattle.text.proofs.Hexadecimal.{digit-at, digits-all, hex-length, hex-digits, hex-of-number, number-of-hex, number-same, number-below}
 use Rattle.text.proofs.WordsOfText.{words-length, word-in, text-length, digit-in}
 
@@ -64,3 +69,16 @@ pub words-below : (k : ℕ) (text : List ℕ) → wellFormed (4 * k) text ≡ tr
 words-below k text e i l =
     let t = formed (4 * k) text e in
     rw (word-in text 0 k i l) (number-below text (0 + 4 * i) 4 (t .1) (omega arith))
+
+-- a record that is written is read back, by the calls themselves
+pub written-is-read : (n f : ℕ) (words out back : List ℕ) → writeRefusal n f (length words) (length out) ≡ 0
+    → ((i : ℕ) → i < length words → getD words i 0 < 65536) → length back ≡ recordWords f
+    → (readRefusal n f (writeOut n f words out) (length back) ≡ 0) × (readOut n f (writeOut n f words out) back ≡ words)
+unfolding writeOut readOut
+written-is-read n f words out back e h m =
+    let p = not-given 1 (badCards n) _ (omega arith) e in
+    let q = not-given 2 (badBroken n f) _ (omega arith) (p .1) in
+    let w = write-accepted n f (length words) (length out) e in
+    let t : wellFormed (4 * recordWords f) (textOf words) ≡ true = rw (w .0) at (written-formed words) in
+    let r : readRefusal n f (textOf words) (length back) ≡ 0 = rw (p .0, q .0, eq-eqb (length back) (recordWords f) m, t) in
+    rw (e, r) (refl, rw (← (w .0)) (reads-back words h))

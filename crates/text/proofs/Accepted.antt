@@ -1,0 +1,58 @@
+-- What the refusals of writing and reading say of the inputs. Assumes nothing.
+use mathlib.Core.Path.{_≡_, refl}
+use mathlib.Core.Bool.{Bool, true, false, not}
+use mathlib.Core.List.{List}
+use Prim.Native.Nat.{ℕ, _*_}
+use native.Mathlib.Omega.{arith}
+use borrow.Author.Tests.{eqb-true, not-false}
+use lib.Dec.{eqb}
+use Rattle.rules.specs.Parameters.{recordWords, badCards, badBroken}
+use Rattle.rules.specs.Refusals.{given, wrong, paramsRefusal, writeRefusal, readRefusal}
+use Rattle.rules.specs.Text.{wellFormed}
+use Rattle.rules.proofs.Shapes.{not-given}
+
+-- refusals 1 and 2 stand whatever comes after them
+first-two : (s t : Bool) (others r : ℕ) → r ≡ given 1 s (given 2 t 0) → (r ≡ 0 → ⊥) → r ≡ given 1 s (given 2 t others)
+first-two true t others r e h = e
+first-two false true others r e h = e
+first-two false false others r e h = absurd (h e)
+
+pub shape-refused : (n f others r : ℕ) → r ≡ paramsRefusal n f → (r ≡ 0 → ⊥) → r ≡ given 1 (badCards n) (given 2 (badBroken n f) others)
+shape-refused n f others r e h = first-two (badCards n) (badBroken n f) others r e h
+
+-- and where they are not given, what comes after them decides
+neither-of-two : (s t : Bool) (others r : ℕ) → r ≡ given 1 s (given 2 t 0) → r ≡ 0 → given 1 s (given 2 t others) ≡ others
+neither-of-two true t others r e z = absurd (omega arith)
+neither-of-two false true others r e z = absurd (omega arith)
+neither-of-two false false others r e z = refl
+
+pub shape-passed : (n f others r : ℕ) → r ≡ paramsRefusal n f → r ≡ 0 → given 1 (badCards n) (given 2 (badBroken n f) others) ≡ others
+shape-passed n f others r e z = neither-of-two (badCards n) (badBroken n f) others r e z
+
+-- refusals 5 and 6 of writing, 6 and 10 of reading
+abbrev pub writeRest : ℕ → ℕ → ℕ → ℕ
+writeRest size words out = given 5 (wrong words size) (given 6 (wrong out (4 * size)) 0)
+
+abbrev pub readRest : ℕ → List ℕ → ℕ → ℕ
+readRest size text out = given 6 (wrong out size) (given 10 (not (wellFormed (4 * size) text)) 0)
+
+-- a length that is not wrong
+right : (size needed : ℕ) → wrong size needed ≡ false → size ≡ needed
+right size needed e = eqb-true size needed (not-false (eqb size needed) e)
+
+pub write-accepted : (n f words out : ℕ) → writeRefusal n f words out ≡ 0 → (words ≡ recordWords f) × (out ≡ 4 * recordWords f)
+write-accepted n f words out e =
+    let p = not-given 1 (badCards n) _ (omega arith) e in
+    let q = not-given 2 (badBroken n f) _ (omega arith) (p .1) in
+    let r = not-given 5 (wrong words (recordWords f)) _ (omega arith) (q .1) in
+    let s = not-given 6 (wrong out (4 * recordWords f)) _ (omega arith) (r .1) in
+    (right words (recordWords f) (r .0), right out (4 * recordWords f) (s .0))
+
+pub read-accepted : (n f : ℕ) (text : List ℕ) (out : ℕ) → readRefusal n f text out ≡ 0
+    → (out ≡ recordWords f) × (wellFormed (4 * recordWords f) text ≡ true)
+read-accepted n f text out e =
+    let p = not-given 1 (badCards n) _ (omega arith) e in
+    let q = not-given 2 (badBroken n f) _ (omega arith) (p .1) in
+    let r = not-given 6 (wrong out (recordWords f)) _ (omega arith) (q .1) in
+    let s = not-given 10 (not (wellFormed (4 * recordWords f) text)) _ (omega arith) (r .1) in
+    (right out (recordWords f) (r .0), not-false (wellFormed (4 * recordWords f) text) (s .0))

@@ -1,0 +1,36 @@
+-- `text::write_refusal` meets its contract: each return rewrites with the tests that led there. Assumes nothing.
+use borrow.Author.Needs.{needs}
+use borrow.Author.Tests.{eq-eqb, ne-eqb}
+use mathlib.Core.Path.{_≡_}
+use Rattle.rules.specs.Parameters.{recordWords}
+use Rattle.rules.specs.Refusals.{writeRefusal}
+use Rattle.text.proofs.Accepted.{shape-refused, shape-passed, writeRest}
+use Rattle.text.proofs.write_refusal.Statement.{statement}
+use Rattle.text.proofs.write_refusal.Tie as tie
+
+returns : tie.Need-returns
+returns c =
+    let a = c .before .before .args in
+    shape-refused (a .n) (a .f) (writeRest (recordWords (a .f)) (a .words) (a .out)) _ (c .before .shape-refusal .ensures) (c .if1 .taken)
+
+-- refusals 1 and 2 are not given
+later : (c : tie.After-record-words)
+    → writeRefusal (c .before .before .before .args .n) (c .before .before .before .args .f) (c .before .before .before .args .words) (c .before .before .before .args .out)
+    ≡ writeRest (c .record-words .result) (c .before .before .before .args .words) (c .before .before .before .args .out)
+later c =
+    let a = c .before .before .before .args in
+    rw (c .record-words .ensures)
+    (shape-passed (a .n) (a .f) (writeRest (recordWords (a .f)) (a .words) (a .out)) _ (c .before .before .shape-refusal .ensures) (c .before .if1 .left))
+
+pub write-refusal-spec : {M : Type 1} → statement M
+write-refusal-spec =
+    tie.close
+    (tie.spec
+    (λ c κs. search needs)
+    returns
+    (λ c κs. search needs)
+    (λ c. search needs)
+    (λ c. rw (later (c .before), ne-eqb _ _ (c .if2 .taken)))
+    (λ c. search needs)
+    (λ c. rw (later (c .before .before), eq-eqb _ _ (c .before .if2 .left), ne-eqb _ _ (c .if3 .taken)))
+    (λ c. rw (later (c .before .before), eq-eqb _ _ (c .before .if2 .left), eq-eqb _ _ (c .if3 .left))))
