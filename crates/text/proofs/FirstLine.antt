@@ -7,13 +7,13 @@ use Prim.Native.Nat.{ℕ, suc, _+_, _-_, _≤_, _<_}
 use native.Mathlib.Nat.{add-zero}
 use native.Mathlib.Numerals.{add-one}
 use native.Mathlib.Omega.{arith}
-use borrow.Author.Tests.{lt-ltb, le-ltb, le-leb, lt-leb, eq-eqb, ne-eqb}
+use borrow.Author.Tests.{le-leb, lt-leb, eq-eqb, ne-eqb}
 use lib.Dec.{eqb, leb}
 use lib.ListN.{length, getD, take, drop, length-drop, drop-of-length-le}
 use lib.Seq.{drop-cons, drop-drop, getD-drop}
 use Rattle.rules.specs.Text.{lineFeed, oneMore, inFront, linesOf, hasLine, lineAt}
-use Rattle.rules.proofs.Tests.{decided, le-or-lt}
-use Rattle.text.specs.Lines.{lineLength, endFrom, nextFrom}
+use Rattle.rules.proofs.Tests.{decided}
+use Rattle.text.specs.Lines.{lineLength, endFrom}
 
 -- at a line feed the line is at its end; before any other character it has one more
 pub feed-here : (text : List ℕ) (i : ℕ) → i < length text → getD text i 0 ≡ lineFeed → lineLength (drop i text) ≡ 0
@@ -51,27 +51,12 @@ first-line (ch ∷ x ∷ rest) l = ⊎-elim
 
 -- the same from a place on
 pub lines-from : (text : List ℕ) (start : ℕ) → start < length text
-    → linesOf (drop start text) ≡ take (endFrom text start - start) (drop start text) ∷ linesOf (drop (nextFrom text start) text)
+    → linesOf (drop start text) ≡ take (endFrom text start - start) (drop start text) ∷ linesOf (drop (endFrom text start + 1) text)
 lines-from text start l =
     let t = drop start text in
     let e : endFrom text start - start ≡ lineLength t = omega arith in
-    rw (e, first-line t (omega (arith, length-drop start text)), drop-drop (suc (lineLength t)) start text, rest)
-  where
-    rest : drop (start + suc (lineLength (drop start text))) text ≡ drop (nextFrom text start) text
-    rest = ⊎-elim
-        (λ (h : length text ≤ endFrom text start).
-        rw (le-ltb (endFrom text start) (length text) h, drop-of-length-le text {i = endFrom text start} h, drop-of-length-le text {i = start + suc (lineLength (drop start text))} (omega arith)))
-        (λ (h : endFrom text start < length text).
-        let q : start + suc (lineLength (drop start text)) ≡ endFrom text start + 1 = omega arith in
-        rw (lt-ltb (endFrom text start) (length text) h, q))
-        (le-or-lt (length text) (endFrom text start))
-
--- the next line begins later
-pub next-later : (text : List ℕ) (start : ℕ) → start < length text → start < nextFrom text start
-next-later text start l = ⊎-elim
-    (λ (h : length text ≤ endFrom text start). rw (le-ltb (endFrom text start) (length text) h) (omega arith))
-    (λ (h : endFrom text start < length text). rw (lt-ltb (endFrom text start) (length text) h) (omega arith))
-    (le-or-lt (length text) (endFrom text start))
+    let q : start + suc (lineLength t) ≡ endFrom text start + 1 = omega arith in
+    rw (e, first-line t (omega (arith, length-drop start text)), drop-drop (suc (lineLength t)) start text, q)
 
 -- one line is passed
 pub one-passed : (left m : ℕ) (lines others : List (List ℕ)) (line : List ℕ) → suc m ≡ left → lines ≡ line ∷ others → drop left lines ≡ drop m others

@@ -7,12 +7,12 @@ use Prim.Native.Nat.{ℕ, zero, suc, _+_, _*_, _-_, _/_, _%_, _^_, _≤_, _<_}
 use native.Mathlib.Nat.{lt-of-lt-of-le, pow-suc, pow-succ', pow-le-pow-right, div-div-eq-div-mul}
 use native.Mathlib.Numerals.{add-one}
 use native.Mathlib.Omega.{arith}
-use borrow.Author.Tests.{lt-ltb, le-ltb, le-leb, lt-leb, leb-true}
-use lib.Dec.{leb}
+use borrow.Author.Tests.{lt-ltb, le-ltb, le-leb, lt-leb, leb-true, eqb-true}
+use lib.Dec.{leb, eqb}
 use lib.ListN.{length, getD, take, drop, length-drop}
 use lib.Seq.{take-suc, drop-cons, getD-drop, getD-at}
 use Rattle.rules.specs.Counting.{rows}
-use Rattle.rules.specs.Text.{digitOf, isDigit, valueOf, hexOf, numberAt, allDigits}
+use Rattle.rules.specs.Text.{digitOf, isDigit, valueOf, hexOf, numberAt, allDigits, wellFormed}
 use Rattle.rules.proofs.Tests.{le-or-lt, and-left, and-right, and-both}
 use Rattle.rules.proofs.Lists.{before-seam, rows-same, tabulate-length, tabulate-at}
 
@@ -79,6 +79,12 @@ digits-all (ch ∷ rest) h =
 pub digits-from : (text : List ℕ) (i : ℕ) → i < length text → allDigits (drop i text) ≡ isDigit (getD text i 0) && allDigits (drop (i + 1) text)
 unfolding allDigits
 digits-from text i l = rw (add-one i, drop-cons text i 0 l)
+
+-- what "not refused by 10" says
+pub formed : (size : ℕ) (text : List ℕ) → wellFormed size text ≡ true → (length text ≡ size) × (allDigits text ≡ true)
+unfolding wellFormed
+formed size text e =
+    (eqb-true (length text) size (and-left (eqb (length text) size) (allDigits text) e), and-right (eqb (length text) size) (allDigits text) e)
 
 -- the last digit of a number, and the digits of the rest
 pub hex-last : (k x : ℕ) → hexOf (suc k) x ≡ hexOf k (x / 16) ++ (digitOf (x % 16) ∷ [])

@@ -4,7 +4,7 @@ use mathlib.Core.Bool.{true}
 use mathlib.Core.List.{List}
 use Prim.Native.Nat.{ℕ, _+_, _*_, _/_, _%_, _<_}
 use native.Mathlib.Omega.{arith}
-use borrow.Author.Tests.{eqb-true, eq-eqb}
+use borrow.Author.Tests.{eq-eqb}
 use lib.Dec.{eqb}
 use lib.ListN.{length, getD, drop}
 use lib.Seq.{ext-getD, getD-take, getD-drop}
@@ -12,17 +12,11 @@ use Rattle.rules.specs.Parameters.{recordWords, badCards, badBroken}
 use Rattle.rules.specs.Refusals.{writeRefusal, readRefusal}
 use Rattle.rules.specs.Calls.{writeOut, readOut}
 use Rattle.rules.specs.Text.{hexOf, allDigits, wellFormed, textOf, wordsAt}
-use Rattle.rules.proofs.Tests.{and-left, and-right, and-both}
+use Rattle.rules.proofs.Tests.{and-both}
 use Rattle.rules.proofs.Shapes.{not-given}
 use Rattle.text.proofs.Accepted.{write-accepted}
-use Rattle.text.proofs.Hexadecimal.{digit-at, digits-all, hex-length, hex-digits, hex-of-number, number-of-hex, number-same, number-below}
+use Rattle.text.proofs.Hexadecimal.{formed, digit-at, digits-all, hex-length, hex-digits, hex-of-number, number-of-hex, number-same, number-below}
 use Rattle.text.proofs.WordsOfText.{words-length, word-in, text-length, digit-in}
-
--- what "not refused by 10" says
-pub formed : (size : ℕ) (text : List ℕ) → wellFormed size text ≡ true → (length text ≡ size) × (allDigits text ≡ true)
-unfolding wellFormed
-formed size text e =
-    (eqb-true (length text) size (and-left (eqb (length text) size) (allDigits text) e), and-right (eqb (length text) size) (allDigits text) e)
 
 -- the text of any words is well formed
 pub written-formed : (words : List ℕ) → wellFormed (4 * length words) (textOf words) ≡ true

@@ -3,10 +3,9 @@ use Prim.Native.Nat.{ℕ, suc, _+_, _-_, _≤_}
 use mathlib.Core.Path.{_≡_}
 use mathlib.Core.Bool.{cond}
 use mathlib.Core.List.{List, [], _∷_}
-use lib.Dec.{eqb, ltb}
+use lib.Dec.{eqb}
 use lib.ListN.{length, take, drop}
 use Rattle.rules.specs.Text.{lineFeed, hasLine, lineAt}
-use Rattle.text.specs.declared.lines.Ends.{Ends}
 use Rattle.text.specs.declared.lines.Place.{Place}
 
 -- the characters before the first line feed
@@ -17,13 +16,6 @@ lineLength (ch ∷ rest) = cond (eqb ch lineFeed) 0 (suc (lineLength rest))
 -- where the line that begins at a place ends
 abbrev pub endFrom : List ℕ → ℕ → ℕ
 endFrom text start = start + lineLength (drop start text)
-
--- and where the next one begins: past the line feed, if there is one
-abbrev pub nextFrom : List ℕ → ℕ → ℕ
-nextFrom text start = cond (ltb (endFrom text start) (length text)) (endFrom text start + 1) (endFrom text start)
-
-abbrev pub endsFrom : List ℕ → ℕ → Ends
-endsFrom text start = record { end = endFrom text start; next = nextFrom text start }
 
 -- the place of line k, if there is one
 pub record Placed (k : ℕ) (text : List ℕ) (place : Place) : Type 0 where

@@ -1,4 +1,4 @@
-// Hexadecimal digits, and the numbers and words that they make: "lower case, high digit first".
+// Hexadecimal digits, and the numbers that they make: "lower case, high digit first".
 ghost use mathlib.Core.Path.{_≡_};
 ghost use mathlib.Core.Bool.{true, _&&_};
 ghost use Prim.Native.Nat.{_+_, _*_, _%_, _<_, _≤_};
@@ -6,6 +6,11 @@ ghost use lib.Dec.{leb};
 ghost use lib.ListN.{length};
 ghost use lib.Seq.{sets};
 ghost use Rattle.rules.specs.Text.{digitOf, isDigit, valueOf, hexOf, numberAt, allDigits, wellFormed};
+
+// A digit below ten is so far from '0', any other so far from ten before 'a'.
+const DECIMAL: u8 = b'0';
+
+const LETTER: u8 = b'a' - 10;
 
 fn within(low: u8, ch: u8, high: u8) -> bool
     ensures { λ r. ⌜ r ≡ (leb low ch && leb ch high) ⌝ }
@@ -32,9 +37,9 @@ pub fn value_of(ch: u8) -> u32
     ensures { λ r. ⌜ r ≡ valueOf ch ⌝ }
 {
     if ch <= b'9' {
-        (ch - 48) as u32
+        (ch - DECIMAL) as u32
     } else {
-        (ch - 87) as u32
+        (ch - LETTER) as u32
     }
 }
 
@@ -43,7 +48,7 @@ pub fn digit_of(x: u8) -> u8
     requires { ⌜ x < 16 ⌝ }
     ensures { λ r. ⌜ r ≡ digitOf x ⌝ }
 {
-    if x < 10 { 48 + x } else { 87 + x }
+    if x < 10 { DECIMAL + x } else { LETTER + x }
 }
 
 fn last_digit(x: u32) -> u8
@@ -89,6 +94,6 @@ pub fn put_number(out: &mut [u8], at: usize, digits: usize, number: u32)
     while 0 < left {
         left -= 1;
         out[at + left] = last_digit(rest);
-        rest = rest / 16;
+        rest /= 16;
     }
 }

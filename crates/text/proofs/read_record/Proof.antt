@@ -10,7 +10,7 @@ use Rattle.rules.specs.Parameters.{recordWords}
 use Rattle.rules.specs.Text.{wellFormed}
 use Rattle.rules.specs.Calls.{readOut}
 use Rattle.text.proofs.Accepted.{read-accepted}
-use Rattle.text.proofs.RoundTrip.{formed}
+use Rattle.text.proofs.Hexadecimal.{formed}
 use Rattle.text.proofs.read_record.Statement.{statement}
 use Rattle.text.proofs.read_record.Tie as tie
 

@@ -2,6 +2,7 @@
 use borrow.Author.Needs.{needs}
 use borrow.Author.Tests.{eq-eqb, ne-eqb}
 use mathlib.Core.Path.{_≡_}
+use Prim.Native.Nat.{_*_}
 use Rattle.rules.specs.Parameters.{recordWords}
 use Rattle.rules.specs.Refusals.{writeRefusal}
 use Rattle.text.proofs.Accepted.{shape-refused, shape-passed, writeRest}
@@ -32,5 +33,5 @@ write-refusal-spec =
     (λ c. search needs)
     (λ c. rw (later (c .before), ne-eqb _ _ (c .if2 .taken)))
     (λ c. search needs)
-    (λ c. rw (later (c .before .before), eq-eqb _ _ (c .before .if2 .left), ne-eqb _ _ (c .if3 .taken)))
-    (λ c. rw (later (c .before .before), eq-eqb _ _ (c .before .if2 .left), eq-eqb _ _ (c .if3 .left))))
+    (λ c. rw (later (c .before .before), eq-eqb _ _ (c .before .if2 .left), ne-eqb _ (4 * c .before .before .record-words .result) (c .if3 .taken)))
+    (λ c. rw (later (c .before .before), eq-eqb _ _ (c .before .if2 .left), eq-eqb _ (4 * c .before .before .record-words .result) (c .if3 .left))))

@@ -2,10 +2,11 @@
 use borrow.Author.Needs.{needs}
 use borrow.Author.Tests.{eq-eqb, ne-eqb, not-true, not-false}
 use mathlib.Core.Path.{_≡_, refl, sym, _∙_}
+use mathlib.Core.Bool.{true, false}
 use Prim.Native.Nat.{_-_, _≤_}
 use native.Mathlib.Omega.{arith}
-use lib.ListN.{drop, drop-of-length-le}
-use Rattle.rules.specs.Text.{allDigits, wellFormed}
+use lib.ListN.{getD, drop, drop-of-length-le}
+use Rattle.rules.specs.Text.{isDigit, allDigits, wellFormed}
 use Rattle.text.proofs.Hexadecimal.{digits-from}
 use Rattle.text.proofs.digits.well_formed.Statement.{statement}
 use Rattle.text.proofs.digits.well_formed.Tie as tie
@@ -25,13 +26,15 @@ unfolding wellFormed
 returns-2 c =
     let l = c .before .before .before .before in
     let text = l .before .before .before .args .text .now in
-    rw (eq-eqb _ _ (l .before .if1 .left), l .loop .inv .1, digits-from text (l .loop .i) (omega arith), sym (c .before .is-digit .ensures) ∙ not-true _ (c .if2 .taken))
+    let none : isDigit (getD text (l .loop .i) 0) ≡ false = sym (c .before .is-digit .ensures) ∙ not-true _ (c .if2 .taken) in
+    rw (eq-eqb _ _ (l .before .if1 .left), l .loop .inv .1, digits-from text (l .loop .i) (omega arith), none)
 
 loop-again : tie.Need-loop-again Inv-loop μ-loop
 loop-again c =
     let l = c .before .before .before .before in
     let text = l .before .before .before .args .text .now in
-    (omega arith, l .loop .inv .1 ∙ digits-from text (l .loop .i) (omega arith) ∙ rw (sym (c .before .is-digit .ensures) ∙ not-false _ (c .if2 .left)))
+    let one : isDigit (getD text (l .loop .i) 0) ≡ true = sym (c .before .is-digit .ensures) ∙ not-false _ (c .if2 .left) in
+    (omega arith, l .loop .inv .1 ∙ digits-from text (l .loop .i) (omega arith) ∙ rw one)
 
 returns-3 : tie.Need-returns-3 Inv-loop μ-loop
 unfolding wellFormed allDigits

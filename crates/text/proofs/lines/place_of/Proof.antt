@@ -3,13 +3,13 @@ use borrow.Author.Needs.{needs}
 use mathlib.Core.Path.{_≡_, refl, sym, _∙_}
 use mathlib.Core.Bool.{false}
 use mathlib.Core.List.{List, []}
-use Prim.Native.Nat.{ℕ, _-_, _<_}
+use Prim.Native.Nat.{ℕ, _-_, _≤_}
 use native.Mathlib.Omega.{arith}
 use lib.ListN.{length, drop, drop-of-length-le}
 use lib.Seq.{drop-nil}
 use Rattle.rules.specs.Text.{linesOf, hasLine}
 use Rattle.text.specs.Lines.{Placed}
-use Rattle.text.proofs.FirstLine.{end-within, lines-from, next-later, one-passed, line-there, no-line, no-line-at}
+use Rattle.text.proofs.FirstLine.{end-within, lines-from, one-passed, line-there, no-line, no-line-at}
 use Rattle.text.proofs.lines.place_of.Statement.{statement}
 use Rattle.text.proofs.lines.place_of.Tie as tie
 
@@ -26,29 +26,27 @@ no-line-0 : (text : List ℕ) (k : ℕ) → k ≡ 0 → hasLine k text ≡ false
 unfolding hasLine
 no-line-0 text k e = rw e
 
+-- the end of a line that begins within the text
+within : (c : tie.After-line-end Inv-loop μ-loop) → c .line-end .result ≤ length (c .before .before .before .before .before .args .text .now)
+within c =
+    let l = c .before .before in
+    rw (c .line-end .ensures) (end-within (l .before .before .before .args .text .now) (l .loop .start) (omega arith))
+
 found : tie.Need-returns-2 Inv-loop μ-loop
 found c =
     let l = c .before .before .before in
     let a = l .before .before .before .args in
     let start = l .loop .start in
-    let within : start < length (a .text .now) = c .before .before .loop-test .taken in
     let here : linesOf (drop start (a .text .now)) ≡ drop (a .k - 1) (linesOf (a .text .now)) = rw (c .if2 .taken) at (l .loop .inv) in
-    let t = line-there (a .k) (a .text .now) _ _ (omega arith) (sym here ∙ lines-from (a .text .now) start within) in
-    rw (c .before .ends-from .ensures)
-    (record { found = sym (t .0); ordered = omega arith; within = end-within (a .text .now) start (omega arith); part = sym (t .1) })
-
-loop-less : tie.Need-loop-less Inv-loop μ-loop
-loop-less c =
-    let l = c .before .before .before in
-    let text = l .before .before .before .args .text .now in
-    rw (c .before .ends-from .ensures) (omega (arith, next-later text (l .loop .start) (c .before .before .loop-test .taken)))
+    let t = line-there (a .k) (a .text .now) _ _ (omega arith) (sym here ∙ lines-from (a .text .now) start (c .before .before .loop-test .taken)) in
+    record { found = sym (t .0); ordered = omega arith; within = within (c .before); part = rw (c .before .line-end .ensures) (sym (t .1)) }
 
 loop-again : tie.Need-loop-again Inv-loop μ-loop
 loop-again c =
     let l = c .before .before .before in
     let text = l .before .before .before .args .text .now in
     let inv = l .loop .inv in
-    rw (c .before .ends-from .ensures)
+    rw (c .before .line-end .ensures)
     (sym (one-passed (l .loop .left) (l .loop .left - 1) _ _ _ (omega arith) (lines-from text (l .loop .start) (c .before .before .loop-test .taken))) ∙ inv)
 
 returns-3 : tie.Need-returns-3 Inv-loop μ-loop
@@ -69,8 +67,9 @@ place-of-spec =
     (λ c. omega arith)
     (λ c. refl)
     (λ c κs. search needs)
+    (λ c. omega (arith, within c))
     found
     (λ c. omega arith)
-    loop-less
+    (λ c. omega arith)
     loop-again
     returns-3)
