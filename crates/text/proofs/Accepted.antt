@@ -7,27 +7,21 @@ use native.Mathlib.Omega.{arith}
 use borrow.Author.Tests.{eqb-true, not-false}
 use lib.Dec.{eqb}
 use Rattle.rules.specs.Parameters.{recordWords, badCards, badBroken}
-use Rattle.rules.specs.Refusals.{given, wrong, paramsRefusal, writeRefusal, readRefusal}
+use Rattle.rules.specs.Refusals.{given, wrong, writeRefusal, readRefusal}
 use Rattle.rules.specs.Text.{wellFormed}
 use Rattle.rules.proofs.Shapes.{not-given}
 
 -- refusals 1 and 2 stand whatever comes after them
-first-two : (s t : Bool) (others r : ℕ) → r ≡ given 1 s (given 2 t 0) → (r ≡ 0 → ⊥) → r ≡ given 1 s (given 2 t others)
-first-two true t others r e h = e
-first-two false true others r e h = e
-first-two false false others r e h = absurd (h e)
+pub shape-refused : (s t : Bool) (others r : ℕ) → r ≡ given 1 s (given 2 t 0) → (r ≡ 0 → ⊥) → r ≡ given 1 s (given 2 t others)
+shape-refused true t others r e h = e
+shape-refused false true others r e h = e
+shape-refused false false others r e h = absurd (h e)
 
-pub shape-refused : (n f others r : ℕ) → r ≡ paramsRefusal n f → (r ≡ 0 → ⊥) → r ≡ given 1 (badCards n) (given 2 (badBroken n f) others)
-shape-refused n f others r e h = first-two (badCards n) (badBroken n f) others r e h
-
--- and where they are not given, what comes after them decides
-neither-of-two : (s t : Bool) (others r : ℕ) → r ≡ given 1 s (given 2 t 0) → r ≡ 0 → given 1 s (given 2 t others) ≡ others
-neither-of-two true t others r e z = absurd (omega arith)
-neither-of-two false true others r e z = absurd (omega arith)
-neither-of-two false false others r e z = refl
-
-pub shape-passed : (n f others r : ℕ) → r ≡ paramsRefusal n f → r ≡ 0 → given 1 (badCards n) (given 2 (badBroken n f) others) ≡ others
-shape-passed n f others r e z = neither-of-two (badCards n) (badBroken n f) others r e z
+-- and where neither is given, what comes after them decides
+pub shape-passed : (s t : Bool) (others r : ℕ) → r ≡ given 1 s (given 2 t 0) → r ≡ 0 → given 1 s (given 2 t others) ≡ others
+shape-passed true t others r e z = absurd (omega arith)
+shape-passed false true others r e z = absurd (omega arith)
+shape-passed false false others r e z = refl
 
 -- refusals 5 and 6 of writing, 6 and 10 of reading
 abbrev pub writeRest : ℕ → ℕ → ℕ → ℕ

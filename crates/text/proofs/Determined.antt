@@ -7,7 +7,7 @@ use Rattle.rules.specs.Text.{lineAt}
 use Rattle.rules.specs.Refusals.{writeRefusal, readRefusal, lineRefusal}
 use Rattle.rules.specs.Calls.{writeOut, readOut}
 
--- every contract of this crate says what each result is, so one lemma serves them all
+-- the contract of each `pub` function of this crate says what its answer and its buffer are, so one lemma serves them all
 pub only-one : {A : Type 0} (is x y : A) → x ≡ is → y ≡ is → x ≡ y
 only-one is x y p q = p ∙ sym q
 

@@ -22,7 +22,7 @@ fn within(low: u8, ch: u8, high: u8) -> bool
 }
 
 // Is it one of 0-9, a-f?
-pub fn is_digit(ch: u8) -> bool
+fn is_digit(ch: u8) -> bool
     ensures { λ r. ⌜ r ≡ isDigit ch ⌝ }
 {
     if within(b'0', ch, b'9') {
@@ -32,7 +32,7 @@ pub fn is_digit(ch: u8) -> bool
 }
 
 // The value of a digit.
-pub fn value_of(ch: u8) -> u32
+fn value_of(ch: u8) -> u32
     requires { ⌜ isDigit ch ≡ true ⌝ }
     ensures { λ r. ⌜ r ≡ valueOf ch ⌝ }
 {
@@ -44,7 +44,7 @@ pub fn value_of(ch: u8) -> u32
 }
 
 // The digit of a value.
-pub fn digit_of(x: u8) -> u8
+fn digit_of(x: u8) -> u8
     requires { ⌜ x < 16 ⌝ }
     ensures { λ r. ⌜ r ≡ digitOf x ⌝ }
 {

@@ -2,9 +2,9 @@
 use borrow.Author.Needs.{needs}
 use borrow.Author.Tests.{ne-eqb}
 use mathlib.Core.Path.{_≡_, sym, _∙_}
-use native.Mathlib.Omega.{arith}
 use mathlib.Core.Bool.{true}
 use Prim.Native.Nat.{_*_}
+use native.Mathlib.Omega.{arith}
 use lib.ListN.{length}
 use Rattle.rules.specs.Parameters.{recordWords}
 use Rattle.rules.specs.Text.{wellFormed}
@@ -18,6 +18,7 @@ returns : tie.Need-returns
 unfolding readOut
 returns c = (c .before .read-refusal .ensures, rw (← (c .before .read-refusal .ensures), ne-eqb _ _ (c .if1 .taken)))
 
+-- what is known once nothing is refused
 good : (c : tie.Else1)
     → (length (c .before .before .before .before .args .out .now) ≡ recordWords (c .before .before .before .before .args .f))
     × (wellFormed (4 * recordWords (c .before .before .before .before .args .f)) (c .before .before .before .before .args .text .now) ≡ true)

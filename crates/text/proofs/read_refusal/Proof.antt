@@ -2,7 +2,7 @@
 use borrow.Author.Needs.{needs}
 use borrow.Author.Tests.{eq-eqb, ne-eqb}
 use mathlib.Core.Path.{_≡_}
-use Rattle.rules.specs.Parameters.{recordWords}
+use Rattle.rules.specs.Parameters.{recordWords, badCards, badBroken}
 use Rattle.rules.specs.Refusals.{readRefusal}
 use Rattle.text.proofs.Accepted.{shape-refused, shape-passed, readRest}
 use Rattle.text.proofs.read_refusal.Statement.{statement}
@@ -11,7 +11,7 @@ use Rattle.text.proofs.read_refusal.Tie as tie
 returns : tie.Need-returns
 returns c =
     let a = c .before .before .before .args in
-    shape-refused (a .n) (a .f) (readRest (recordWords (a .f)) (a .text .now) (a .out)) _ (c .before .shape-refusal .ensures) (c .if1 .taken)
+    shape-refused (badCards (a .n)) (badBroken (a .n) (a .f)) (readRest (recordWords (a .f)) (a .text .now) (a .out)) _ (c .before .shape-refusal .ensures) (c .if1 .taken)
 
 -- refusals 1 and 2 are not given
 later : (c : tie.After-record-words)
@@ -20,7 +20,7 @@ later : (c : tie.After-record-words)
 later c =
     let a = c .before .before .before .before .args in
     rw (c .record-words .ensures)
-    (shape-passed (a .n) (a .f) (readRest (recordWords (a .f)) (a .text .now) (a .out)) _ (c .before .before .shape-refusal .ensures) (c .before .if1 .left))
+    (shape-passed (badCards (a .n)) (badBroken (a .n) (a .f)) (readRest (recordWords (a .f)) (a .text .now) (a .out)) _ (c .before .before .shape-refusal .ensures) (c .before .if1 .left))
 
 pub read-refusal-spec : {M : Type 1} → statement M
 read-refusal-spec =

@@ -2,8 +2,8 @@
 use borrow.Author.Needs.{needs}
 use borrow.Author.Tests.{ne-eqb}
 use mathlib.Core.Path.{_≡_, sym, _∙_}
-use native.Mathlib.Omega.{arith}
 use Prim.Native.Nat.{_*_}
+use native.Mathlib.Omega.{arith}
 use lib.ListN.{length}
 use Rattle.rules.specs.Parameters.{recordWords}
 use Rattle.rules.specs.Text.{textOf}
@@ -18,6 +18,7 @@ returns : tie.Need-returns
 unfolding writeOut
 returns c = (c .before .write-refusal .ensures, rw (← (c .before .write-refusal .ensures), ne-eqb _ _ (c .if1 .taken)))
 
+-- what is known once nothing is refused
 good : (c : tie.Else1)
     → (length (c .before .before .before .before .args .words .now) ≡ recordWords (c .before .before .before .before .args .f))
     × (length (c .before .before .before .before .args .out .now) ≡ 4 * recordWords (c .before .before .before .before .args .f))

@@ -3,7 +3,7 @@ use borrow.Author.Needs.{needs}
 use borrow.Author.Tests.{eq-eqb, ne-eqb}
 use mathlib.Core.Path.{_≡_}
 use Prim.Native.Nat.{_*_}
-use Rattle.rules.specs.Parameters.{recordWords}
+use Rattle.rules.specs.Parameters.{recordWords, badCards, badBroken}
 use Rattle.rules.specs.Refusals.{writeRefusal}
 use Rattle.text.proofs.Accepted.{shape-refused, shape-passed, writeRest}
 use Rattle.text.proofs.write_refusal.Statement.{statement}
@@ -12,7 +12,7 @@ use Rattle.text.proofs.write_refusal.Tie as tie
 returns : tie.Need-returns
 returns c =
     let a = c .before .before .args in
-    shape-refused (a .n) (a .f) (writeRest (recordWords (a .f)) (a .words) (a .out)) _ (c .before .shape-refusal .ensures) (c .if1 .taken)
+    shape-refused (badCards (a .n)) (badBroken (a .n) (a .f)) (writeRest (recordWords (a .f)) (a .words) (a .out)) _ (c .before .shape-refusal .ensures) (c .if1 .taken)
 
 -- refusals 1 and 2 are not given
 later : (c : tie.After-record-words)
@@ -21,7 +21,7 @@ later : (c : tie.After-record-words)
 later c =
     let a = c .before .before .before .args in
     rw (c .record-words .ensures)
-    (shape-passed (a .n) (a .f) (writeRest (recordWords (a .f)) (a .words) (a .out)) _ (c .before .before .shape-refusal .ensures) (c .before .if1 .left))
+    (shape-passed (badCards (a .n)) (badBroken (a .n) (a .f)) (writeRest (recordWords (a .f)) (a .words) (a .out)) _ (c .before .before .shape-refusal .ensures) (c .before .if1 .left))
 
 pub write-refusal-spec : {M : Type 1} → statement M
 write-refusal-spec =

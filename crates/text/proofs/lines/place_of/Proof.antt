@@ -45,9 +45,8 @@ loop-again : tie.Need-loop-again Inv-loop μ-loop
 loop-again c =
     let l = c .before .before .before in
     let text = l .before .before .before .args .text .now in
-    let inv = l .loop .inv in
     rw (c .before .line-end .ensures)
-    (sym (one-passed (l .loop .left) (l .loop .left - 1) _ _ _ (omega arith) (lines-from text (l .loop .start) (c .before .before .loop-test .taken))) ∙ inv)
+    (sym (one-passed (l .loop .left) (l .loop .left - 1) _ _ _ (omega arith) (lines-from text (l .loop .start) (c .before .before .loop-test .taken))) ∙ l .loop .inv)
 
 returns-3 : tie.Need-returns-3 Inv-loop μ-loop
 unfolding linesOf
