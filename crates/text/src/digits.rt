@@ -7,7 +7,7 @@ ghost use lib.ListN.{length};
 ghost use lib.Seq.{sets};
 ghost use Rattle.rules.specs.Text.{digitOf, isDigit, valueOf, hexOf, numberAt, allDigits, wellFormed};
 
-// A digit below ten is so far from '0', any other so far from ten before 'a'.
+// A digit's value is its distance from '0', or from ten before 'a'.
 const DECIMAL: u8 = b'0';
 
 const LETTER: u8 = b'a' - 10;
