@@ -1,7 +1,7 @@
 ghost use mathlib.Core.Path.{_≡_};
 ghost use Prim.Native.Nat.{ℕ, _+_, _*_, _<_, _≤_};
 ghost use Rattle.rules.specs.Parameters.{badModulus, mostBroken, recordWords};
-ghost use Rattle.rules.specs.Refusals.{paramsRefusal};
+ghost use Rattle.rules.specs.Refusals.{paramsRefusal, shapeRefusal};
 ghost use Rattle.params.specs.Answers.{entryOf, rowRead, answerTo};
 
 const MOST_CARDS: u32 = 16;
@@ -63,6 +63,20 @@ pub fn modulus_refused(c: u32) -> bool
         return true;
     }
     MOST_MODULUS < c
+}
+
+// Refusals 1, 2 and 3.
+pub fn counter_refusal(n: u32, f: u32, c: u32) -> u32
+    ensures { λ r. ⌜ r ≡ shapeRefusal n f c 0 ⌝ }
+{
+    let refusal = shape_refusal(n, f);
+    if refusal != 0 {
+        return refusal;
+    }
+    if modulus_refused(c) {
+        return 3;
+    }
+    0
 }
 
 // W, from the leading zeros of f.

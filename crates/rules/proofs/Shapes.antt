@@ -7,7 +7,7 @@ use lib.Dec.{eqb, ltb, leb}
 use borrow.Author.Tests.{eqb-true, eqb-false, ltb-false, leb-false, not-false}
 use Rattle.rules.specs.Parameters.{mostCards, mostBroken, leastModulus, mostModulus, recordWords, badCards, badBroken, badModulus}
 use Rattle.rules.specs.WholeBeat.{brokenBelow, badSet, sentWords}
-use Rattle.rules.specs.Refusals.{given, wrong, paramsRefusal, stepRefusal, beatRefusal}
+use Rattle.rules.specs.Refusals.{given, wrong, paramsRefusal, shapeRefusal, stepRefusal, beatRefusal}
 use Rattle.rules.proofs.Tests.{never}
 
 -- a refusal that is 0: the test did not hold, and nor did those after it
@@ -18,6 +18,37 @@ not-given number false others l e = (refl, e)
 pub neither : (s t : Bool) → (s || t) ≡ false → (s ≡ false) × (t ≡ false)
 neither true t e = absurd (never e)
 neither false t e = (refl, e)
+
+-- refusals 1 and 2 stand whatever comes after them
+pub shape-refused : (s t : Bool) (others r : ℕ) → r ≡ given 1 s (given 2 t 0) → (r ≡ 0 → ⊥) → r ≡ given 1 s (given 2 t others)
+shape-refused true t others r e h = e
+shape-refused false true others r e h = e
+shape-refused false false others r e h = absurd (h e)
+
+-- and where neither is given, what comes after them decides
+pub shape-passed : (s t : Bool) (others r : ℕ) → r ≡ given 1 s (given 2 t 0) → r ≡ 0 → given 1 s (given 2 t others) ≡ others
+shape-passed true t others r e z = absurd (omega arith)
+shape-passed false true others r e z = absurd (omega arith)
+shape-passed false false others r e z = refl
+
+-- the same of refusals 1, 2 and 3
+pub counter-refused : (n f c others r : ℕ) → r ≡ shapeRefusal n f c 0 → (r ≡ 0 → ⊥) → r ≡ shapeRefusal n f c others
+counter-refused n f c others r e h = go (badCards n) (badBroken n f) (badModulus c) e
+  where
+    go : (s t u : Bool) → r ≡ given 1 s (given 2 t (given 3 u 0)) → r ≡ given 1 s (given 2 t (given 3 u others))
+    go true t u q = q
+    go false true u q = q
+    go false false true q = q
+    go false false false q = absurd (h q)
+
+pub counter-passed : (n f c others r : ℕ) → r ≡ shapeRefusal n f c 0 → r ≡ 0 → shapeRefusal n f c others ≡ others
+counter-passed n f c others r e z = go (badCards n) (badBroken n f) (badModulus c) e
+  where
+    go : (s t u : Bool) → r ≡ given 1 s (given 2 t (given 3 u 0)) → given 1 s (given 2 t (given 3 u others)) ≡ others
+    go true t u q = absurd (omega arith)
+    go false true u q = absurd (omega arith)
+    go false false true q = absurd (omega arith)
+    go false false false q = refl
 
 pub record Shape (n f : ℕ) : Type 0 where
   pub some : 0 < n

@@ -1,27 +1,14 @@
 -- What the refusals of writing and reading say of the inputs. Assumes nothing.
-use mathlib.Core.Path.{_≡_, refl}
-use mathlib.Core.Bool.{Bool, true, false, not}
+use mathlib.Core.Path.{_≡_}
+use mathlib.Core.Bool.{true, not}
 use mathlib.Core.List.{List}
 use Prim.Native.Nat.{ℕ, _*_}
 use native.Mathlib.Omega.{arith}
-use borrow.Author.Tests.{eqb-true, not-false}
-use lib.Dec.{eqb}
+use borrow.Author.Tests.{not-false}
 use Rattle.rules.specs.Parameters.{recordWords, badCards, badBroken}
 use Rattle.rules.specs.Refusals.{given, wrong, writeRefusal, readRefusal}
 use Rattle.rules.specs.Text.{wellFormed}
-use Rattle.rules.proofs.Shapes.{not-given}
-
--- refusals 1 and 2 stand whatever comes after them
-pub shape-refused : (s t : Bool) (others r : ℕ) → r ≡ given 1 s (given 2 t 0) → (r ≡ 0 → ⊥) → r ≡ given 1 s (given 2 t others)
-shape-refused true t others r e h = e
-shape-refused false true others r e h = e
-shape-refused false false others r e h = absurd (h e)
-
--- and where neither is given, what comes after them decides
-pub shape-passed : (s t : Bool) (others r : ℕ) → r ≡ given 1 s (given 2 t 0) → r ≡ 0 → given 1 s (given 2 t others) ≡ others
-shape-passed true t others r e z = absurd (omega arith)
-shape-passed false true others r e z = absurd (omega arith)
-shape-passed false false others r e z = refl
+use Rattle.rules.proofs.Shapes.{not-given, right}
 
 -- refusals 5 and 6 of writing, 6 and 10 of reading
 abbrev pub writeRest : ℕ → ℕ → ℕ → ℕ
@@ -29,10 +16,6 @@ writeRest size words out = given 5 (wrong words size) (given 6 (wrong out (4 * s
 
 abbrev pub readRest : ℕ → List ℕ → ℕ → ℕ
 readRest size text out = given 6 (wrong out size) (given 10 (not (wellFormed (4 * size) text)) 0)
-
--- a length that is not wrong
-right : (size needed : ℕ) → wrong size needed ≡ false → size ≡ needed
-right size needed e = eqb-true size needed (not-false (eqb size needed) e)
 
 pub write-accepted : (n f words out : ℕ) → writeRefusal n f words out ≡ 0 → (words ≡ recordWords f) × (out ≡ 4 * recordWords f)
 write-accepted n f words out e =

@@ -4,7 +4,8 @@ use borrow.Author.Tests.{eq-eqb, ne-eqb}
 use mathlib.Core.Path.{_≡_}
 use Rattle.rules.specs.Parameters.{recordWords, badCards, badBroken}
 use Rattle.rules.specs.Refusals.{readRefusal}
-use Rattle.text.proofs.Accepted.{shape-refused, shape-passed, readRest}
+use Rattle.rules.proofs.Shapes.{shape-refused, shape-passed}
+use Rattle.text.proofs.Accepted.{readRest}
 use Rattle.text.proofs.read_refusal.Statement.{statement}
 use Rattle.text.proofs.read_refusal.Tie as tie
 

@@ -5,7 +5,8 @@ use mathlib.Core.Path.{_≡_}
 use Prim.Native.Nat.{_*_}
 use Rattle.rules.specs.Parameters.{recordWords, badCards, badBroken}
 use Rattle.rules.specs.Refusals.{writeRefusal}
-use Rattle.text.proofs.Accepted.{shape-refused, shape-passed, writeRest}
+use Rattle.rules.proofs.Shapes.{shape-refused, shape-passed}
+use Rattle.text.proofs.Accepted.{writeRest}
 use Rattle.text.proofs.write_refusal.Statement.{statement}
 use Rattle.text.proofs.write_refusal.Tie as tie
 
