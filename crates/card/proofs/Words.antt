@@ -1,14 +1,17 @@
 -- What a group writes: its one word, or its eight and then those of the card's own half. Assumes nothing.
-use mathlib.Core.Path.{_≡_, refl, sym, ap, _∙_}
+use mathlib.Core.Path.{_≡_, refl, sym, ap, _∙_, fun-ext}
 use mathlib.Core.List.{List, [], _∷_, _++_}
 use Prim.Native.Nat.{ℕ, zero, suc, _+_, _-_, _≤_, _<_}
+use native.Mathlib.Nat.{zero-add, sub-zero}
 use native.Mathlib.Omega.{arith}
-use lib.ListN.{set}
-use lib.Seq.{sets}
+use lib.ListN.{length, drop, set, replicate, length-replicate}
+use lib.Seq.{sets, sets-eq}
 use Rattle.rules.specs.Parameters.{recordWords}
-use Rattle.rules.specs.Groups.{halfOf, halfFirst, halfCards, halfBroken, halfModulus, heardInHalf}
-use Rattle.rules.specs.OneBeat.{leafNext, levelNext, groupNext}
+use Rattle.rules.specs.Groups.{halfOf, halfFirst, halfCards, halfBroken, halfModulus, heardIn, heardInHalf}
+use Rattle.rules.specs.OneBeat.{leafNext, levelNext, groupNext, padded, nextRecord}
 use Rattle.rules.proofs.Halves.{half-broken, half-words}
+use Rattle.rules.proofs.Records.{group-length, words-most}
+use Rattle.rules.proofs.Shapes.{Step}
 use Rattle.level.specs.declared.group.Group.{Group}
 use Rattle.level.specs.declared.Level.{Level}
 use Rattle.level.specs.Groups.{Fits, Split, heardBy, halfGroup}
@@ -60,3 +63,49 @@ pub half-smaller : {size : ℕ} (g h : Group) (i : ℕ) → Split size g → i <
 half-smaller g h i s l e =
     rw e
     (omega (arith, half-broken i (g .f) l, s .some), half-fits s i l, omega (arith, half-words i (g .f) l (s .some)), refl)
+
+-- the outermost group hears the records as they stand
+pub whole-heard : (recs : List ℕ) (g : Group) → g .first ≡ 0 → g .base ≡ 0 → heardBy recs g ≡ heardIn (g .w) recs
+whole-heard recs g a b = fun-ext (λ u. fun-ext (λ j. rw (a, b, zero-add u, zero-add j)))
+
+-- "Words beyond are written 0"
+pub over-zeros : (w : ℕ) (words : List ℕ) → length words ≤ w → sets (replicate w 0) 0 words ≡ padded w words
+unfolding padded
+over-zeros w words l =
+    sets-eq words (replicate w 0) 0 (omega (arith, length-replicate {A = ℕ} w 0))
+    ∙ rw (zero-add (length words), zeros-drop w (length words) l)
+  where
+    zeros-drop : (m k : ℕ) → k ≤ m → _≡_ {A = List ℕ} (drop k (replicate m 0)) (replicate (m - k) 0)
+    zeros-drop m zero h = rw (sub-zero m)
+    zeros-drop zero (suc k) h = absurd (omega arith)
+    zeros-drop (suc m) (suc k) h = let e : suc m - suc k ≡ m - k = omega arith in rw e (zeros-drop m k (omega arith))
+
+-- the outermost group of a call that is not refused
+abbrev pub wholeOf : ℕ → ℕ → ℕ → ℕ → Group
+wholeOf n f c w = record { cards = n; w = w; first = 0; base = 0; n = n; f = f; c = c }
+
+pub whole-fits : (n f c card records out w : ℕ) → Step n f c card records out → w ≡ recordWords f → Fits records (wholeOf n f c w)
+whole-fits n f c card records out w s e =
+    rw e
+    (record {
+      table = omega (arith, s .records-whole);
+      rows = omega arith;
+      words = omega arith;
+      few = s .shape .few;
+      small = omega (arith, s .shape .cards);
+      narrow = omega (arith, words-most f (s .shape .broken));
+      broken = s .shape .broken;
+      two = s .least;
+      modulus = s .most;
+    })
+
+-- what it writes over zeros is the next record
+pub record-is : (n f c card w : ℕ) (recs zeros last : List ℕ) → w ≡ recordWords f → zeros ≡ replicate w 0
+    → last ≡ sets zeros 0 (groupNext (suc f) n f c (heardBy recs (wholeOf n f c w)) card)
+    → last ≡ nextRecord n f c (heardIn (recordWords f) recs) card
+unfolding nextRecord
+record-is n f c card w recs zeros last e z h =
+    let words = groupNext (suc f) n f c (heardIn w recs) card in
+    let l : length words ≤ w = rw e (group-length (suc f) n f c (heardIn (recordWords f) recs) card) in
+    h ∙ ap (λ (hear : ℕ → ℕ → ℕ). sets zeros 0 (groupNext (suc f) n f c hear card)) (whole-heard recs (wholeOf n f c w) refl refl)
+    ∙ rw z (over-zeros w words l ∙ rw e)

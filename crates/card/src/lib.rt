@@ -9,8 +9,10 @@ ghost use lib.ListN.{length, replicate};
 ghost use lib.Seq.{sets};
 ghost use Rattle.rules.specs.Parameters.{recordWords};
 ghost use Rattle.rules.specs.OneBeat.{leafNext, groupNext};
+ghost use Rattle.rules.specs.Refusals.{stepRefusal, shownRefusal};
+ghost use Rattle.rules.specs.Calls.{stepOut};
 ghost use Rattle.level.specs.Groups.{Fits, Split, heardBy};
-ghost use Rattle.card.specs.Answers.{halfNext};
+ghost use Rattle.card.specs.Answers.{halfNext, shownTo};
 
 // "Group with f = 0: a becomes the first member's a plus 1, modulo c."
 fn leaf_word(recs: &[u16], g: Group) -> u16
@@ -47,5 +49,97 @@ fn step_half(recs: &[u16], g: Group, card: usize, out: &mut [u16])
         step_group(recs, group::half_zero(g, row.c0), card, out);
     } else {
         step_group(recs, group::half_one(g, row.c1), card - half, out);
+    }
+}
+
+// All words 0.
+fn clear(out: &mut [u16])
+    ensures { λ _. ⌜ now (out .exit) ≡ replicate (length (now (out .entry))) 0 ⌝ }
+{
+    let mut j: usize = 0;
+    while j < out.len() {
+        out[j] = 0;
+        j += 1;
+    }
+}
+
+// Refusals 1, 2, 3, 4, 5, 6.
+fn step_refusal(n: u32, f: u32, c: u32, card: u32, records: usize, out: usize) -> u32
+    ensures { λ r. ⌜ r ≡ stepRefusal n f c card records out ⌝ }
+{
+    let refusal = params::counter_refusal(n, f, c);
+    if refusal != 0 {
+        return refusal;
+    }
+    if n <= card {
+        return 4;
+    }
+    let w = params::record_words(f);
+    if records != (n * w) as usize {
+        return 5;
+    }
+    if out != w as usize {
+        return 6;
+    }
+    0
+}
+
+// One card's step: the card's next record, from the n records that it hears.
+pub fn step(n: u32, f: u32, c: u32, card: u32, records: &[u16], out: &mut [u16]) -> u32
+    ensures { λ r. ⌜ (r ≡ stepRefusal n f c card (length (now (records .entry))) (length (now (out .entry)))) × (now (out .exit) ≡ stepOut n f c card (now (records .entry)) (now (out .entry))) ⌝ }
+{
+    let refusal = step_refusal(n, f, c, card, records.len(), out.len());
+    if refusal != 0 {
+        return refusal;
+    }
+    clear(out);
+    let whole = Group {
+        cards: n as usize,
+        w: params::record_words(f) as usize,
+        first: 0,
+        base: 0,
+        n: n as usize,
+        f: f,
+        c: c,
+    };
+    step_group(records, whole, card as usize, out);
+    0
+}
+
+// What the shown count answers: the refusal, and the count, which is 0 where there is one.
+pub struct Shown {
+    pub refusal: u32,
+    pub count: Vote,
+}
+
+// Refusals 1, 2, 3, 5.
+fn shown_refusal(n: u32, f: u32, c: u32, words: usize) -> u32
+    ensures { λ r. ⌜ r ≡ shownRefusal n f c words ⌝ }
+{
+    let refusal = params::counter_refusal(n, f, c);
+    if refusal != 0 {
+        return refusal;
+    }
+    if words != params::record_words(f) as usize {
+        return 5;
+    }
+    0
+}
+
+// "Shown count. The outermost a, or none."
+pub fn shown_count(n: u32, f: u32, c: u32, words: &[u16]) -> Shown
+    ensures { λ r. ⌜ r ≡ shownTo n f c (now (words .entry)) ⌝ }
+{
+    let refusal = shown_refusal(n, f, c, words.len());
+    if refusal != 0 {
+        return Shown {
+            refusal,
+            count: Vote::Count(0),
+        };
+    }
+    let at = group::output_place(f);
+    Shown {
+        refusal: 0,
+        count: column::read_vote(c, words[at]),
     }
 }

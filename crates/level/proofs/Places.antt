@@ -1,32 +1,17 @@
 -- Where a group's words stand: its columns and those of its halves' outputs lie within the table. Assumes nothing.
 use mathlib.Core.Path.{_≡_, refl, sym, ap, _∙_, fun-ext}
-use mathlib.Core.Logic.{⊎-elim}
-use mathlib.Core.Bool.{true, false, cond}
 use mathlib.Core.List.{List}
 use Prim.Native.Nat.{ℕ, zero, suc, _+_, _*_, _-_, _/_, _≤_, _<_}
 use native.Mathlib.Nat.{add-zero, add-assoc}
 use native.Mathlib.Omega.{arith}
-use lib.Dec.{eqb}
-use borrow.Author.Tests.{ne-eqb, eqb-false}
-use Rattle.rules.specs.Parameters.{binaryDigits, recordWords}
+use Rattle.rules.specs.Parameters.{recordWords}
 use Rattle.rules.specs.Groups.{halfFirst, halfCards, halfBroken, halfModulus, heardInHalf, outputPlace, outputOf}
 use Rattle.rules.specs.OneBeat.{mostFrequent, nextM}
-use Rattle.rules.proofs.Tests.{decided}
-use Rattle.rules.proofs.Digits.{digits-half}
+use Rattle.rules.proofs.Records.{eight-words, output-inside}
 use Rattle.rules.proofs.Halves.{half-few, half-ends, half-broken, half-modulus, half-words}
 use Rattle.level.specs.declared.group.Group.{Group}
 use Rattle.level.specs.Columns.{Within}
 use Rattle.level.specs.Groups.{Fits, Split, heardBy, columnOf, halfGroup, outputsOf}
-
--- a split group has its eight words, and a group's output stands in its words
-pub eight-words : (f : ℕ) → 1 ≤ f → 8 < recordWords f
-eight-words f l = omega (arith, digits-half f l)
-
-output-inside : (f : ℕ) → outputPlace f < recordWords f
-output-inside f = ⊎-elim
-    (λ (e : eqb f 0 ≡ true). rw e (omega arith))
-    (λ (e : eqb f 0 ≡ false). let ne = eqb-false f 0 e in rw e (omega (arith, eight-words f (omega arith))))
-    (decided (eqb f 0))
 
 pub split-place : {size : ℕ} {g : Group} → Split size g → (j : ℕ) → j ≤ 8 → g .base + j < g .w
 split-place {g = g} s j l = omega (arith, eight-words (g .f) (s .some), s .fits .words)

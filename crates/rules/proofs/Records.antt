@@ -3,16 +3,40 @@ use mathlib.Core.Path.{_≡_}
 use mathlib.Core.Logic.{⊎-elim}
 use mathlib.Core.Bool.{true, false}
 use mathlib.Core.List.{List}
-use Prim.Native.Nat.{ℕ, zero, suc, _-_, _≤_}
+use Prim.Native.Nat.{ℕ, zero, suc, _*_, _-_, _≤_, _<_}
+use native.Mathlib.Nat.{mul-le-mul-left}
 use native.Mathlib.Omega.{arith}
+use lib.Dec.{eqb}
 use lib.ListN.{length, length-append}
-use Rattle.rules.specs.Parameters.{recordWords}
-use Rattle.rules.specs.Groups.{halfCards, halfFirst, halfBroken, halfModulus, halfOf, heardInHalf}
+use borrow.Author.Tests.{eqb-false}
+use Rattle.rules.specs.Parameters.{mostCards, mostBroken, digitsIn, binaryDigits, recordWords}
+use Rattle.rules.specs.Groups.{halfCards, halfFirst, halfBroken, halfModulus, halfOf, heardInHalf, outputPlace}
 use Rattle.rules.specs.OneBeat.{levelNext, groupNext, nextRecord}
 use Rattle.rules.specs.WholeBeat.{isBroken, heldRecord, recordAfter}
 use Rattle.rules.proofs.Tests.{decided}
+use Rattle.rules.proofs.Digits.{digits-half, digits-mono}
 use Rattle.rules.proofs.Lists.{tabulate-length, padded-length}
 use Rattle.rules.proofs.Halves.{half-less, half-words}
+
+-- a record of an allowed shape is short, and so is a table of them
+pub words-most : (f : ℕ) → f ≤ mostBroken → recordWords f ≤ 25
+unfolding binaryDigits digitsIn
+words-most f l = omega (arith, digits-mono f 5 l)
+
+pub table-most : (n f : ℕ) → n ≤ mostCards → f ≤ mostBroken → n * recordWords f ≤ 400
+table-most n f ln lf =
+    let a : n * recordWords f ≤ n * 25 = mul-le-mul-left n (words-most f lf) in
+    omega arith
+
+-- a split group has its eight words, and a group's output stands in its words
+pub eight-words : (f : ℕ) → 1 ≤ f → 8 < recordWords f
+eight-words f l = omega (arith, digits-half f l)
+
+pub output-inside : (f : ℕ) → outputPlace f < recordWords f
+output-inside f = ⊎-elim
+    (λ (e : eqb f 0 ≡ true). rw e (omega arith))
+    (λ (e : eqb f 0 ≡ false). let ne = eqb-false f 0 e in rw e (omega (arith, eight-words f (omega arith))))
+    (decided (eqb f 0))
 
 -- a group's words fit its record
 pub group-length : (k n f c : ℕ) (hear : ℕ → ℕ → ℕ) (card : ℕ) → length (groupNext k n f c hear card) ≤ recordWords f

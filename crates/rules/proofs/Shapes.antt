@@ -7,7 +7,7 @@ use lib.Dec.{eqb, ltb, leb}
 use borrow.Author.Tests.{eqb-true, eqb-false, ltb-false, leb-false, not-false}
 use Rattle.rules.specs.Parameters.{mostCards, mostBroken, leastModulus, mostModulus, recordWords, badCards, badBroken, badModulus}
 use Rattle.rules.specs.WholeBeat.{brokenBelow, badSet, sentWords}
-use Rattle.rules.specs.Refusals.{given, wrong, paramsRefusal, shapeRefusal, stepRefusal, beatRefusal}
+use Rattle.rules.specs.Refusals.{given, wrong, paramsRefusal, shapeRefusal, stepRefusal, beatRefusal, shownRefusal}
 use Rattle.rules.proofs.Tests.{never}
 
 -- a refusal that is 0: the test did not hold, and nor did those after it
@@ -72,6 +72,13 @@ pub good-modulus : (c : ℕ) → badModulus c ≡ false → (leastModulus ≤ c)
 good-modulus c e =
     let t = neither (ltb c leastModulus) (ltb mostModulus c) e in
     (ltb-false c leastModulus (t .0), ltb-false mostModulus c (t .1))
+
+-- where refusals 1, 2 and 3 are not given
+pub counter-shape : (n f c : ℕ) → shapeRefusal n f c 0 ≡ 0 → Shape n f
+counter-shape n f c e =
+    let p = not-given 1 (badCards n) _ (omega arith) e in
+    let q = not-given 2 (badBroken n f) _ (omega arith) (p .1) in
+    good-shape n f (p .0) (q .0)
 
 -- where the parameters of n and f are not refused
 pub accepted : (n f : ℕ) → paramsRefusal n f ≡ 0 → Shape n f
@@ -144,3 +151,11 @@ step-accepted n f c card records out e =
       records-whole = right records (n * recordWords f) (r .0);
       out-whole = right out (recordWords f) (o .0);
     }
+
+-- where the shown count is not refused
+pub shown-accepted : (n f c words : ℕ) → shownRefusal n f c words ≡ 0 → words ≡ recordWords f
+shown-accepted n f c words e =
+    let p = not-given 1 (badCards n) _ (omega arith) e in
+    let q = not-given 2 (badBroken n f) _ (omega arith) (p .1) in
+    let m = not-given 3 (badModulus c) _ (omega arith) (q .1) in
+    right words (recordWords f) (not-given 5 (wrong words (recordWords f)) 0 (omega arith) (m .1) .0)

@@ -7,7 +7,8 @@ use Prim.Native.Nat.{ℕ, _<_, _+_}
 use borrow.Fn.Kinds.{In}
 use borrow.Fn.PlainCycle.{Measures, is, falls, and}
 use Rattle.level.specs.Groups.{heardBy}
-use Rattle.level.proofs.Places.{eight-words, split-narrow, split-cards}
+use Rattle.rules.proofs.Records.{eight-words}
+use Rattle.level.proofs.Places.{split-narrow, split-cards}
 use Rattle.level.proofs.Rows.{row-is}
 use Rattle.card.proofs.Words.{leaf-is, node-is, half-is, half-smaller}
 use Rattle.card.proofs.step_group.Reads as step-group
