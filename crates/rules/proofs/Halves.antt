@@ -50,6 +50,14 @@ half-of zero n u l h = rw (lt-ltb (0 + u) (n / 2) (omega arith))
 half-of (suc zero) n u l h = rw (le-ltb (n / 2 + u) (n / 2) (omega arith))
 half-of (suc (suc i)) n u l h = absurd (omega arith)
 
+-- a card is one of its own half's
+pub half-own : (n v : ℕ) → v < n
+    → let i = halfOf n v in (halfFirst i n + (v - halfFirst i n) ≡ v) × (v - halfFirst i n < halfCards i n)
+half-own n v h = ⊎-elim
+    (λ (l : n / 2 ≤ v). rw (le-ltb v (n / 2) l) (omega arith))
+    (λ (l : v < n / 2). rw (lt-ltb v (n / 2) l) (omega arith))
+    (le-or-lt (n / 2) v)
+
 pub half-modulus : (i f : ℕ) → i < 2 → (2 ≤ halfModulus i f) × (halfModulus i f ≤ c1 f)
 half-modulus i f l =
     each-half (λ i. (2 ≤ halfModulus i f) × (halfModulus i f ≤ c1 f)) (omega arith) (omega arith) i l

@@ -1,6 +1,6 @@
 -- Document 01, "Groups within groups": halves, what a record holds, how each word is read. Assumes nothing.
-use Prim.Native.Nat.{ℕ, _+_, _*_, _-_, _/_, min}
-use mathlib.Core.Bool.{Bool, cond}
+use Prim.Native.Nat.{ℕ, zero, suc, _+_, _*_, _-_, _/_, min}
+use mathlib.Core.Bool.{Bool, false, cond, _||_}
 use mathlib.Core.List.{List}
 use lib.Dec.{eqb, ltb}
 use lib.ListN.{getD}
@@ -64,6 +64,24 @@ bPlace = 7
 -- "A group's output is its word a"
 abbrev pub outputPlace : ℕ → ℕ
 outputPlace f = cond (eqb f 0) 0 6
+
+-- How many words of the record the card of the group uses, outermost group first; "Words beyond are written 0 and never
+-- read." f falls on each round, so that k > f rounds are enough
+unfoldable pub ownWords : ℕ → ℕ → ℕ → ℕ → ℕ
+ownWords zero n f card = 0
+ownWords (suc k) n zero card = 1
+ownWords (suc k) n (suc f) card =
+    let i = halfOf n card in
+    8 + ownWords k (halfCards i n) (halfBroken i (suc f)) (card - halfFirst i n)
+
+-- May other cards read the word j of the card? They may read m0, m1 and a of a split group, and a of a group with f = 0
+unfoldable pub carried : ℕ → ℕ → ℕ → ℕ → ℕ → Bool
+carried zero n f card j = false
+carried (suc k) n zero card j = eqb j (outputPlace 0)
+carried (suc k) n (suc f) card j =
+    let i = halfOf n card in
+    cond (ltb j 8) (eqb j (mPlace 0) || eqb j (mPlace 1) || eqb j (outputPlace (suc f)))
+    (carried k (halfCards i n) (halfBroken i (suc f)) (card - halfFirst i n) (j - 8))
 
 -- "a output or M at or above its modulus is none"; "an m at or above ci is not counted"
 unfoldable pub readVote : ℕ → ℕ → Vote
