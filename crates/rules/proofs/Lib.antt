@@ -5,4 +5,5 @@ pub mod Lists
 pub mod Digits
 pub mod Shapes
 pub mod Halves
+pub mod Heard
 pub mod Records

@@ -3,20 +3,20 @@ use mathlib.Core.Path.{_≡_}
 use mathlib.Core.Logic.{⊎-elim}
 use mathlib.Core.Bool.{true, false}
 use mathlib.Core.List.{List}
-use Prim.Native.Nat.{ℕ, zero, suc, _*_, _-_, _≤_, _<_}
+use Prim.Native.Nat.{ℕ, suc, _*_, _≤_, _<_}
 use native.Mathlib.Nat.{mul-le-mul-left}
 use native.Mathlib.Omega.{arith}
 use lib.Dec.{eqb}
-use lib.ListN.{length, length-append}
+use lib.ListN.{length}
 use borrow.Author.Tests.{eqb-false}
 use Rattle.rules.specs.Parameters.{mostCards, mostBroken, digitsIn, binaryDigits, recordWords}
-use Rattle.rules.specs.Groups.{halfCards, halfFirst, halfBroken, halfModulus, halfOf, heardInHalf, outputPlace}
-use Rattle.rules.specs.OneBeat.{levelNext, groupNext, nextRecord}
+use Rattle.rules.specs.Groups.{outputPlace}
+use Rattle.rules.specs.OneBeat.{groupNext, nextRecord}
 use Rattle.rules.specs.WholeBeat.{isBroken, heldRecord, recordAfter}
 use Rattle.rules.proofs.Tests.{decided}
 use Rattle.rules.proofs.Digits.{digits-half, digits-mono}
 use Rattle.rules.proofs.Lists.{tabulate-length, padded-length}
-use Rattle.rules.proofs.Halves.{half-less, half-words}
+use Rattle.rules.proofs.Heard.{written, own-most}
 
 -- a record of an allowed shape is short, and so is a table of them
 pub words-most : (f : ℕ) → f ≤ mostBroken → recordWords f ≤ 25
@@ -40,18 +40,7 @@ output-inside f = ⊎-elim
 
 -- a group's words fit its record
 pub group-length : (k n f c : ℕ) (hear : ℕ → ℕ → ℕ) (card : ℕ) → length (groupNext k n f c hear card) ≤ recordWords f
-unfolding groupNext levelNext
-group-length zero n f c hear card = omega arith
-group-length (suc k) n zero c hear card = omega arith
-group-length (suc k) n (suc f) c hear card =
-    let i = halfOf n card in
-    let rest = groupNext k (halfCards i n) (halfBroken i (suc f)) (halfModulus i (suc f)) (heardInHalf i n hear) (card - halfFirst i n) in
-    omega (
-      arith,
-      length-append (levelNext n (suc f) c hear card) rest,
-      group-length k (halfCards i n) (halfBroken i (suc f)) (halfModulus i (suc f)) (heardInHalf i n hear) (card - halfFirst i n),
-      half-words i (suc f) (half-less n card) (omega arith),
-    )
+group-length k n f c hear card = rw (written k n f c hear card) (own-most k n f card)
 
 -- every record of the table has its W words
 pub record-length : (n f c set : ℕ) (held sent : List ℕ) (v : ℕ) → length (recordAfter n f c set held sent v) ≡ recordWords f
