@@ -1,11 +1,13 @@
--- Two answers that the contracts of `lag_refusal` and `lag_of` allow coincide. Assumes nothing.
-use mathlib.Core.Path.{_≡_, sym, _∙_}
+-- Two results that a contract allows coincide, for all inputs. Assumes nothing.
+use mathlib.Core.Path.{_≡_}
 use Prim.Native.Nat.{ℕ}
 use lib.IntN.{ℤ}
 use Rattle.rules.specs.Refusals.{lagRefusal}
 use Rattle.rules.specs.Calls.{lagAnswer}
+use Rattle.rules.proofs.Determined.{only-one}
 
--- the refusals r and s, and the lags z and w, for all inputs
-pub lag-determined : (c x y r s : ℕ) (z w : ℤ)
-    → r ≡ lagRefusal c x y → s ≡ lagRefusal c x y → z ≡ lagAnswer c x y → w ≡ lagAnswer c x y → (r ≡ s) × (z ≡ w)
-lag-determined c x y r s z w p q g h = (p ∙ sym q, g ∙ sym h)
+pub lag-refusal-determined : (c x y r s : ℕ) → r ≡ lagRefusal c x y → s ≡ lagRefusal c x y → r ≡ s
+lag-refusal-determined c x y r s p q = only-one p q
+
+pub lag-determined : (c x y : ℕ) (z w : ℤ) → z ≡ lagAnswer c x y → w ≡ lagAnswer c x y → z ≡ w
+lag-determined c x y z w p q = only-one p q

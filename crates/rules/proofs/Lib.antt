@@ -7,3 +7,4 @@ pub mod Shapes
 pub mod Halves
 pub mod Heard
 pub mod Records
+pub mod Determined
