@@ -1,0 +1,44 @@
+//! Where the cooldown restarts: by the paper, in the bought routine, and far too soon.
+
+use second::params;
+use second::split;
+
+use crate::level::Level;
+
+/// A rule for the restart of the cooldown.
+#[derive(Clone, Copy, Debug)]
+pub struct Cooldown {
+    pub name: &'static str,
+    /// The restart in a group that is split for f broken cards.
+    pub restart: fn(usize) -> u16,
+}
+
+/// The paper's rule.
+pub const RIGHT: Cooldown = Cooldown {
+    name: "2·c1",
+    restart: params::restart,
+};
+
+/// The bought routine's fault.
+pub const BOUGHT: Cooldown = Cooldown {
+    name: "c1",
+    restart: params::c1,
+};
+
+/// So soon that lies about the counter of a half are trusted in time to do harm.
+pub const TOO_SOON: Cooldown = Cooldown {
+    name: "t",
+    restart: params::t,
+};
+
+impl Cooldown {
+    /// Takes every cooldown of a record down to the restart. Done after each beat this is the
+    /// same as restarting there, because a card's w is read by nobody else.
+    pub fn cap(self, path: &[Level], record: &mut [u16]) {
+        for level in path.iter().filter(|level| level.group.is_split()) {
+            for w in &mut record[level.word(split::W)..level.word(split::A)] {
+                *w = (*w).min((self.restart)(level.group.f));
+            }
+        }
+    }
+}
