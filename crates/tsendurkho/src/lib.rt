@@ -1,0 +1,144 @@
+// What C and Rust reach: one card's step and the lag, "on numbers and byte slices, two bytes a word, low byte first".
+ghost use mathlib.Core.Path.{_≡_};
+ghost use Prim.Native.Nat.{_+_, _*_, _/_, _%_};
+ghost use lib.ListN.{length};
+ghost use Rattle.rules.specs.Counting.{tabulate};
+ghost use Rattle.rules.specs.Bytes.{wordAt, bytesOf};
+ghost use Rattle.rules.specs.Refusals.{stepRefusal, stepBytesRefusal, lagRefusal};
+ghost use Rattle.rules.specs.Calls.{stepOut, stepBytesOut, lagAnswer};
+
+// W of the largest f, and n·W of the largest n.
+const MOST_WORDS: usize = 25;
+
+const MOST_TABLE: usize = 400;
+
+fn joined(low: u8, high: u8) -> u16
+    ensures { λ r. ⌜ r ≡ low + 256 * high ⌝ }
+{
+    low as u16 + 256 * (high as u16)
+}
+
+fn low_byte(word: u16) -> u8
+    ensures { λ r. ⌜ r ≡ word % 256 ⌝ }
+{
+    (word % 256) as u8
+}
+
+fn high_byte(word: u16) -> u8
+    ensures { λ r. ⌜ r ≡ word / 256 ⌝ }
+{
+    (word / 256) as u8
+}
+
+// Reads the words of some bytes.
+fn decode(bytes: &[u8], words: &mut [u16])
+    requires { ⌜ length (now bytes) ≡ 2 * length (now words) ⌝ }
+    ensures { λ _. ⌜ now (words .exit) ≡ tabulate (length (now (words .entry))) (wordAt (now (bytes .entry))) ⌝ }
+{
+    let size = words.len();
+    for i in 0..size {
+        words[i] = joined(bytes[2 * i], bytes[2 * i + 1]);
+    }
+}
+
+// Writes some words as bytes.
+fn encode(words: &[u16], bytes: &mut [u8])
+    requires { ⌜ length (now bytes) ≡ 2 * length (now words) ⌝ }
+    ensures { λ _. ⌜ now (bytes .exit) ≡ bytesOf (now (words .entry)) ⌝ }
+{
+    let size = words.len();
+    for i in 0..size {
+        let word = words[i];
+        bytes[2 * i] = low_byte(word);
+        bytes[2 * i + 1] = high_byte(word);
+    }
+}
+
+// Refusals 1, 2, 3, 4, 5, 6; "an odd byte count is a wrong length".
+fn step_refusal(n: u32, f: u32, c: u32, card: u32, records: usize, out: usize) -> u32
+    ensures { λ r. ⌜ r ≡ stepBytesRefusal n f c card records out ⌝ }
+{
+    let refusal = params::counter_refusal(n, f, c);
+    if refusal != 0 {
+        return refusal;
+    }
+    if n <= card {
+        return 4;
+    }
+    let w = params::record_words(f);
+    if records != (2 * (n * w)) as usize {
+        return 5;
+    }
+    if out != (2 * w) as usize {
+        return 6;
+    }
+    0
+}
+
+// The step by way of words: those of the records heard, and those of the next record.
+fn step_words(
+    n: u32,
+    f: u32,
+    c: u32,
+    card: u32,
+    records: &[u8],
+    heard: &mut [u16],
+    next: &mut [u16],
+    out: &mut [u8],
+)
+    requires { ⌜ (length (now records) ≡ 2 * length (now heard)) × (length (now out) ≡ 2 * length (now next)) ⌝ }
+    ensures { λ _. ⌜ now (out .exit) ≡ bytesOf (stepOut n f c card (tabulate (length (now (heard .entry))) (wordAt (now (records .entry)))) (now (next .entry))) ⌝ }
+{
+    decode(records, heard);
+    card::step(n, f, c, card, heard, next);
+    encode(next, out);
+}
+
+// One card's step: the card's next record, from the n records that it hears.
+#[no_mangle]
+pub extern "C" fn tsendurkho_step(
+    n: u32,
+    f: u32,
+    c: u32,
+    card: u32,
+    records: &[u8],
+    out: &mut [u8],
+) -> u32
+    ensures { λ r. ⌜ (r ≡ stepBytesRefusal n f c card (length (now (records .entry))) (length (now (out .entry)))) × (now (out .exit) ≡ stepBytesOut n f c card (now (records .entry)) (now (out .entry))) ⌝ }
+{
+    let refusal = step_refusal(n, f, c, card, records.len(), out.len());
+    if refusal != 0 {
+        return refusal;
+    }
+    let mut heard = [0u16; MOST_TABLE];
+    let mut next = [0u16; MOST_WORDS];
+    let size = records.len() / 2;
+    let w = out.len() / 2;
+    step_words(
+        n,
+        f,
+        c,
+        card,
+        records,
+        &mut heard[..size],
+        &mut next[..w],
+        out,
+    );
+    0
+}
+
+// The refusal of a lag.
+#[no_mangle]
+pub extern "C" fn tsendurkho_lag_refusal(c: u32, x: u32, y: u32) -> u32
+    ensures { λ r. ⌜ r ≡ lagRefusal c x y ⌝ }
+{
+    lag::lag_refusal(c, x, y)
+}
+
+// The lag of x against y, 0 where it is refused.
+#[no_mangle]
+pub extern "C" fn tsendurkho_lag(c: u32, x: u32, y: u32) -> i32
+    ensures { λ r. ⌜ r ≡ lagAnswer c x y ⌝ }
+{
+    lag::lag_of(c, x, y)
+}
