@@ -1,0 +1,46 @@
+//! The proved run program, started as its users start it: by the launcher at the root of the repository.
+
+use std::io::{ErrorKind, Read, Write};
+use std::path::{Path, PathBuf};
+use std::process::{Child, ChildStdin, ChildStdout, Command, Stdio};
+use std::thread;
+
+/// The root of the repository.
+pub fn root() -> PathBuf {
+    Path::new(env!("CARGO_MANIFEST_DIR")).join("../..")
+}
+
+/// The running program, and both ends of it.
+pub fn start() -> (Child, ChildStdin, ChildStdout) {
+    let mut child = Command::new(root().join("tsendurkho"))
+        .arg("run")
+        .stdin(Stdio::piped())
+        .stdout(Stdio::piped())
+        .spawn()
+        .expect("the launcher starts");
+    let input = child.stdin.take().expect("its input is a pipe");
+    let output = child.stdout.take().expect("its output is a pipe");
+    (child, input, output)
+}
+
+/// Hands a piece on. The program stops reading at a bad line, and then the pipe may be closed: that is no fault.
+pub fn send(input: &mut ChildStdin, piece: &[u8]) -> bool {
+    match input.write_all(piece) {
+        Ok(()) => true,
+        Err(error) if error.kind() == ErrorKind::BrokenPipe => false,
+        Err(error) => panic!("the program's input failed: {error}"),
+    }
+}
+
+/// What the program writes for an input that arrives in these pieces.
+pub fn output_of(pieces: &[&[u8]]) -> Vec<u8> {
+    let (mut child, mut input, mut output) = start();
+    let written = thread::scope(|scope| {
+        scope.spawn(move || pieces.iter().all(|piece| send(&mut input, piece)));
+        let mut written = Vec::new();
+        output.read_to_end(&mut written).expect("its output can be read");
+        written
+    });
+    assert!(child.wait().expect("the program ends").success());
+    written
+}
