@@ -1,0 +1,90 @@
+-- `rack::beat_refusal` meets its contract: each return rewrites with the tests that led there. Assumes nothing.
+use borrow.Author.Needs.{needs}
+use borrow.Author.Tests.{eq-eqb, ne-eqb}
+use mathlib.Core.Path.{_≡_, sym, _∙_}
+use Prim.Native.Nat.{ℕ, _*_, _≤_}
+use native.Mathlib.Omega.{arith}
+use Rattle.rules.specs.Parameters.{recordWords}
+use Rattle.rules.specs.WholeBeat.{brokenBelow, badSet}
+use Rattle.rules.specs.Refusals.{given, wrong, beatRefusal}
+use Rattle.rules.proofs.Records.{words-most, table-most}
+use Rattle.rules.proofs.Shapes.{Shape, counter-refused, counter-passed, counter-shape}
+use Rattle.rack.proofs.BrokenSet.{broken-most}
+use Rattle.rack.proofs.Accepted.{sent-most}
+use Rattle.rack.proofs.beat_refusal.Statement.{statement}
+use Rattle.rack.proofs.beat_refusal.Tie as tie
+
+-- what is tested after 3
+abbrev rest : ℕ → ℕ → ℕ → ℕ → ℕ → ℕ → ℕ
+rest n f set held sent out =
+    given 7 (badSet n f set)
+    (given 5 (wrong held (n * recordWords f))
+    (given 8 (wrong sent (n * brokenBelow set n * recordWords f))
+    (given 6 (wrong out (n * recordWords f)) 0)))
+
+refused : tie.Need-returns
+refused c =
+    let a = c .before .before .args in
+    counter-refused (a .n) (a .f) (a .c) (rest (a .n) (a .f) (a .set) (a .held) (a .sent) (a .out)) _ (c .before .counter-refusal .ensures) (c .if1 .taken)
+
+-- refusals 1 to 3 are not given
+later : (c : tie.Else1)
+    → beatRefusal (c .before .before .args .n) (c .before .before .args .f) (c .before .before .args .c) (c .before .before .args .set) (c .before .before .args .held) (c .before .before .args .sent) (c .before .before .args .out)
+    ≡ rest (c .before .before .args .n) (c .before .before .args .f) (c .before .before .args .set) (c .before .before .args .held) (c .before .before .args .sent) (c .before .before .args .out)
+later c =
+    let a = c .before .before .args in
+    counter-passed (a .n) (a .f) (a .c) (rest (a .n) (a .f) (a .set) (a .held) (a .sent) (a .out)) _ (c .before .counter-refusal .ensures) (c .if1 .left)
+
+shape : (c : tie.Else1) → Shape (c .before .before .args .n) (c .before .before .args .f)
+shape c =
+    let a = c .before .before .args in
+    counter-shape (a .n) (a .f) (a .c) (sym (c .before .counter-refusal .ensures) ∙ c .if1 .left)
+
+-- the products are small
+table-small : (c : tie.After-record-words) → c .before .before .before .before .before .args .n * c .record-words .result ≤ 400
+table-small c =
+    let e = c .before .before .before in
+    let s = shape e in
+    rw (c .record-words .ensures) (table-most (e .before .before .args .n) (e .before .before .args .f) (s .cards) (s .broken))
+
+sent-small : (c : tie.After-broken-below)
+    → (c .before .before .before .before .before .before .before .args .n * c .broken-below .result ≤ 256)
+    × (c .before .before .before .before .before .before .before .args .n * c .broken-below .result * c .before .before .record-words .result ≤ 6400)
+sent-small c =
+    let e = c .before .before .before .before .before in
+    let a = e .before .before .args in
+    let s = shape e in
+    sent-most (a .n) _ _ (s .cards)
+    (rw (c .broken-below .ensures) (omega (arith, broken-most (a .set) (a .n), s .cards)))
+    (rw (c .before .before .record-words .ensures) (words-most (a .f) (s .broken)))
+
+-- refusals 7 and 5 are not given either
+sent-next : (c : tie.After-broken-below)
+    → beatRefusal (c .before .before .before .before .before .before .before .args .n) (c .before .before .before .before .before .before .before .args .f) (c .before .before .before .before .before .before .before .args .c) (c .before .before .before .before .before .before .before .args .set) (c .before .before .before .before .before .before .before .args .held) (c .before .before .before .before .before .before .before .args .sent) (c .before .before .before .before .before .before .before .args .out)
+    ≡ given 8 (wrong (c .before .before .before .before .before .before .before .args .sent) (c .before .before .before .before .before .before .before .args .n * c .broken-below .result * c .before .before .record-words .result))
+    (given 6 (wrong (c .before .before .before .before .before .before .before .args .out) (c .before .before .before .before .before .before .before .args .n * c .before .before .record-words .result)) 0)
+sent-next c =
+    let p = c .before .before .before in
+    later (p .before .before)
+    ∙ rw (← (p .before .set-refused .ensures), p .if2 .left, ← (c .broken-below .ensures), ← (c .before .before .record-words .ensures), eq-eqb _ _ (c .before .if3 .left))
+
+pub beat-refusal-spec : {M : Type 1} → statement M
+beat-refusal-spec =
+    tie.close
+    (tie.spec
+    (λ c κs. search needs)
+    refused
+    (λ c κs. shape c .cards)
+    (λ c. sym (later (c .before .before) ∙ rw (← (c .before .set-refused .ensures), c .if2 .taken)))
+    (λ c κs. search needs)
+    (λ c. omega (arith, table-small c))
+    (λ c. omega (arith, table-small c))
+    (λ c. let p = c .before .before in
+    sym (later (p .before .before) ∙ rw (← (p .before .set-refused .ensures), p .if2 .left, ← (c .before .record-words .ensures), ne-eqb _ _ (c .if3 .taken))))
+    (λ c κs. shape (c .before .before .before .before) .cards)
+    (λ c. omega (arith, sent-small c))
+    (λ c. omega (arith, sent-small c))
+    (λ c. omega (arith, sent-small c))
+    (λ c. sym (sent-next (c .before) ∙ rw (ne-eqb _ _ (c .if4 .taken))))
+    (λ c. sym (sent-next (c .before .before) ∙ rw (eq-eqb _ _ (c .before .if4 .left), ne-eqb _ _ (c .if5 .taken))))
+    (λ c. sym (sent-next (c .before .before) ∙ rw (eq-eqb _ _ (c .before .if4 .left), eq-eqb _ _ (c .if5 .left)))))
