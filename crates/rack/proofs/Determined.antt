@@ -1,14 +1,11 @@
--- Two results that a contract allows coincide, for each public routine. Assumes nothing.
-use mathlib.Core.Path.{_≡_, sym, _∙_}
+-- Two results that a contract allows coincide, answers and buffers, for all inputs. Assumes nothing.
+use mathlib.Core.Path.{_≡_}
 use mathlib.Core.List.{List}
 use Prim.Native.Nat.{ℕ}
 use lib.ListN.{length}
 use Rattle.rules.specs.Refusals.{beatRefusal}
 use Rattle.rules.specs.Calls.{beatOut}
-
--- the contract of each `pub` function of this crate says what its answer and its buffer are, so one lemma serves them all
-pub only-one : {A : Type 0} (is x y : A) → x ≡ is → y ≡ is → x ≡ y
-only-one is x y p q = p ∙ sym q
+use Rattle.rules.proofs.Determined.{both-only}
 
 -- the answer and the buffer at exit, as the contract of the whole beat has them
 abbrev Beaten : ℕ → ℕ → ℕ → ℕ → List ℕ → List ℕ → List ℕ → ℕ → List ℕ → Type 0
@@ -17,4 +14,4 @@ Beaten n f c set held sent out r exit =
 
 pub beat-determined : (n f c set : ℕ) (held sent out : List ℕ) (r s : ℕ) (p q : List ℕ)
     → Beaten n f c set held sent out r p → Beaten n f c set held sent out s q → (r ≡ s) × (p ≡ q)
-beat-determined n f c set held sent out r s p q x y = (only-one _ r s (x .0) (y .0), only-one _ p q (x .1) (y .1))
+beat-determined n f c set held sent out r s p q x y = both-only x y
