@@ -1,0 +1,96 @@
+/*
+ * Tsendurkho: the block counter of digitiser cards.
+ *
+ * Up to sixteen cards share a beat that carries no number. On every beat each
+ * card hears a record from every card of the group, its own included, and
+ * makes of them its next record. The sound cards come to show one same count
+ * modulo c, one more on each beat, though up to f of the n cards are broken.
+ *
+ * Link libtsendurkho.a. No call keeps anything between calls, allocates or
+ * calls back, so calls from several threads do not disturb one another.
+ *
+ *
+ * A record
+ *
+ * A record is W words of 16 bits, and a word is two bytes, the low byte first:
+ *
+ *     f |  0   1   2   3   4   5
+ *     W |  1   9  17  17  25  25      words
+ *       |  2  18  34  34  50  50      bytes
+ *
+ * It holds, outermost group first, eight words for a split group (f above 0)
+ * and one word for a group with f = 0, which is the last:
+ *
+ *     m0 m1 M0 M1 w0 w1 a b  ..  a
+ *
+ * mi is the most frequent output of half i, Mi the vote on the mi, wi the
+ * cooldown of Mi, a the count, and b whether the count had a strong majority.
+ * After the eight words come those of the half that the card is in, as a group
+ * of its own. Words beyond the last are written 0 and never read. The count
+ * that a card shows is the a of the outermost group: word 0 of its record if
+ * f = 0, else word 6; 65,535 (and any a at or above c) is none.
+ *
+ * Any words may be given: those out of range are read as the rules say. A card
+ * may start from any record at all.
+ */
+#ifndef TSENDURKHO_H
+#define TSENDURKHO_H
+
+#include <stddef.h>
+#include <stdint.h>
+
+#ifdef __cplusplus
+extern "C" {
+#endif
+
+/*
+ * Why a call is turned away. A call gives the first of its numbers that
+ * applies, in this order, and 0 when it succeeds.
+ */
+#define TSENDURKHO_BAD_CARDS 1u   /* n is 0 or above 16 */
+#define TSENDURKHO_BAD_BROKEN 2u  /* f above 5, or 3f >= n */
+#define TSENDURKHO_BAD_MODULUS 3u /* c below 2 or above 65,535 */
+#define TSENDURKHO_BAD_CARD 4u    /* card number at or above n */
+#define TSENDURKHO_BAD_RECORDS 5u /* records not the needed words, n*W */
+#define TSENDURKHO_BAD_OUTPUT 6u  /* output buffer not exactly W words */
+#define TSENDURKHO_BAD_LAG 9u     /* a lag input at or above c */
+
+/* The word for none. */
+#define TSENDURKHO_NONE 65535u
+
+/*
+ * One card's step: writes the card's next record to out, from the n records
+ * that it hears, card 0 first. Its own slot is its own record.
+ *
+ *   n, f, c      the cards, how many of them may be broken, the modulus
+ *   card         the card that steps, 0 to n-1
+ *   records      n*W words: records_len bytes, 2*n*W of them
+ *   out          W words: out_len bytes, 2*W of them
+ *
+ * Answers 0, or the refusal: 1, 2, 3, 4, 5 or 6. An odd number of bytes is a
+ * wrong length. A refused call leaves out as it was.
+ *
+ * out and records must not overlap. A pointer may be null where its length is
+ * 0; no record is 0 bytes long, so such a call is refused.
+ */
+uint32_t tsendurkho_step(uint32_t n, uint32_t f, uint32_t c, uint32_t card,
+                         const uint8_t *records, size_t records_len,
+                         uint8_t *out, size_t out_len);
+
+/*
+ * Whether the lag of x against y, counts modulo c, is refused: 0, 3 or 9.
+ */
+uint32_t tsendurkho_lag_refusal(uint32_t c, uint32_t x, uint32_t y);
+
+/*
+ * The lag of x against y: the number congruent to x - y modulo c that is above
+ * -c/2 and at most c/2. A refused lag is 0, as the lag of like counts is:
+ * tsendurkho_lag_refusal tells them apart.
+ */
+int32_t tsendurkho_lag(uint32_t c, uint32_t x, uint32_t y);
+
+#ifdef __cplusplus
+}
+#endif
+
+#endif
