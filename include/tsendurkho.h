@@ -6,8 +6,10 @@
  * makes of them its next record. The sound cards come to show one same count
  * modulo c, one more on each beat, though up to f of the n cards are broken.
  *
- * Link libtsendurkho.a. No call keeps anything between calls, allocates or
- * calls back, so calls from several threads do not disturb one another.
+ * Link libtsendurkho.a; of the C library it needs memcpy and memset. No call
+ * keeps anything between calls, allocates or calls back, so calls from several
+ * threads do not disturb one another. A step needs at most 2,640 bytes of
+ * stack (docs/STACK.md).
  *
  *
  * A record
