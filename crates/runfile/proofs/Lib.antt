@@ -1,0 +1,3 @@
+pub mod Stores
+pub mod Headers
+pub mod Pieces

@@ -1,0 +1,17 @@
+-- Laws of what is stored in the caller's buffers. Assumes nothing.
+use mathlib.Core.Path.{_≡_}
+use mathlib.Core.List.{List, [], _∷_}
+use Prim.Native.Nat.{ℕ, suc, _+_, _<_}
+use native.Mathlib.Numerals.{add-one}
+use native.Mathlib.Omega.{arith}
+use lib.ListN.{length, getD, take, drop, set, length-drop}
+use lib.Seq.{sets, take-suc, getD-drop, length-take-le}
+use Rattle.text.proofs.Stores.{sets-append}
+
+-- one character more of a part is stored
+pub one-kept : (line piece : List ℕ) (held from i : ℕ) → from + i < length piece
+    → set (sets line held (take i (drop from piece))) (held + i) (getD piece (from + i) 0) ≡ sets line held (take (i + 1) (drop from piece))
+one-kept line piece held from i l =
+    let d = drop from piece in
+    let n : length (take i d) ≡ i = length-take-le i d (omega (arith, length-drop from piece)) in
+    rw (add-one i, take-suc d i 0 (omega (arith, length-drop from piece)), sets-append (take i d) (getD d i 0 ∷ []) line held, n, getD-drop from piece i 0)
