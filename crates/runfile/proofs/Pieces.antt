@@ -73,10 +73,17 @@ held-enough run line e = ⊎-elim
     (le-or-lt longest (length line))
 
 -- an accepted line leads to such a run again, and to the next line's number
-unrefused : (refusal : ℕ) (run next : Run) (text written : List ℕ) → orRefused refusal (accepted run text) ≡ accepted next written → (refusal ≡ 0) × (run ≡ next)
+pub unrefused : (refusal : ℕ) (run next : Run) (text written : List ℕ) → orRefused refusal (accepted run text) ≡ accepted next written → (refusal ≡ 0) × (run ≡ next)
 unfolding orRefused
 unrefused refusal run next text written e = ⊎-elim
     (λ (z : eqb refusal 0 ≡ true). (eqb-true refusal 0 z, let k = rw z at e in cc))
+    (λ (z : eqb refusal 0 ≡ false). let k = rw z at e in let y : _≡_ {A = ℕ} 0 1 = cc in absurd (omega arith))
+    (decided (eqb refusal 0))
+
+pub unrefused-text : (refusal : ℕ) (run next : Run) (text written : List ℕ) → orRefused refusal (accepted run text) ≡ accepted next written → text ≡ written
+unfolding orRefused
+unrefused-text refusal run next text written e = ⊎-elim
+    (λ (z : eqb refusal 0 ≡ true). let k = rw z at e in cc)
     (λ (z : eqb refusal 0 ≡ false). let k = rw z at e in let y : _≡_ {A = ℕ} 0 1 = cc in absurd (omega arith))
     (decided (eqb refusal 0))
 

@@ -1,2 +1,4 @@
 pub mod Headers
 pub mod Feeds
+pub mod Runs
+pub mod Calls

@@ -44,4 +44,5 @@ keep-spec =
     (λ c. omega arith)
     (λ c. omega arith)
     loop-again
+    (λ c. c .before .loop .inv .1)
     returns)

@@ -1,0 +1,21 @@
+-- `runfile::frame::start_words` meets its contract: the product is small. Assumes nothing.
+use borrow.Author.Needs.{needs}
+use mathlib.Core.Path.{_≡_}
+use Prim.Native.Nat.{_*_, _≤_}
+use native.Mathlib.Omega.{arith}
+use Rattle.runfile.specs.Headers.{said}
+use Rattle.runfile.proofs.Headers.{start-most}
+use Rattle.runfile.proofs.frame.start_words.Statement.{statement}
+use Rattle.runfile.proofs.frame.start_words.Tie as tie
+
+small : (c : tie.After-struct-known) → c .before .before .args .h .n * c .before .record-words .result ≤ 400
+small c = rw (c .before .record-words .ensures) (start-most (said (c .before .before .args .h)) (c .before .before .pre))
+
+pub start-words-spec : {M : Type 1} → statement M
+start-words-spec =
+    tie.close
+    (tie.spec
+    (λ c κs. search needs)
+    (λ c. omega (arith, small c))
+    (λ c. omega (arith, small c))
+    (λ c. rw (c .before .record-words .ensures)))
