@@ -9,7 +9,7 @@ use crate::level::Level;
 #[derive(Clone, Copy, Debug)]
 pub struct Cooldown {
     pub name: &'static str,
-    /// The restart in a group that is split for f broken cards.
+    /// The restart in a group split for f broken cards.
     pub restart: fn(usize) -> u16,
 }
 
@@ -19,21 +19,23 @@ pub const RIGHT: Cooldown = Cooldown {
     restart: params::restart,
 };
 
-/// The bought routine's fault.
+/// The bought routine's fault. No run was found that it makes late, and docs/SETTLES.md says why
+/// there may be none.
 pub const BOUGHT: Cooldown = Cooldown {
     name: "c1",
     restart: params::c1,
 };
 
-/// So soon that lies about the counter of a half are trusted in time to do harm.
+/// So soon that a half can jump between two turns of the other half. A search that finds no
+/// late run here would show nothing elsewhere.
 pub const TOO_SOON: Cooldown = Cooldown {
     name: "t",
     restart: params::t,
 };
 
 impl Cooldown {
-    /// Takes every cooldown of a record down to the restart. Done after each beat this is the
-    /// same as restarting there, because a card's w is read by nobody else.
+    /// Takes every cooldown of a record down to the restart. Done before each beat this is the
+    /// same as restarting there, because a card's w is read by that card alone.
     pub fn cap(self, path: &[Level], record: &mut [u16]) {
         for level in path.iter().filter(|level| level.group.is_split()) {
             for w in &mut record[level.word(split::W)..level.word(split::A)] {

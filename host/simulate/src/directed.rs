@@ -1,201 +1,156 @@
-//! An adversary aimed at the pointers. It has one broken card too many in one half of a group, so
-//! that half's counter is its own: it runs at the phase that makes the halves' pointers miss one
-//! another, only the cards of that half come to trust it, and it jumps when it would help.
+//! An adversary aimed at the pointers.
+//!
+//! In one half of a group it breaks one card more than the half bears, so that this bad half's
+//! counter is its own to run. Only the cards of the bad half come to trust that counter, and it
+//! keeps out of step with the good half's. So while the good half points to itself and the bad
+//! half to itself too, the sound cards take different steps and obey different kings.
 
-use second::beat::is_broken;
 use second::count::{self, NONE};
-use second::king::{self, Output};
 use second::params;
 use second::random::Random;
 use second::split;
 
+use crate::divide::divide;
 use crate::level::{stepped, Level};
 use crate::scene::{Adversary, Scene};
 
+/// The attack on one group, and on its good half if that one is split again.
 pub struct Directed {
-    attack: Attack,
-    pub broken: u32,
-}
-
-impl Directed {
-    pub fn bad(&self) -> usize { self.attack.bad }
-    pub fn new(outermost: Level, random: &mut Random) -> Directed {
-        let attack = Attack::new(outermost, random);
-        let broken = attack.broken(random);
-        Directed { attack, broken }
-    }
-}
-
-impl Adversary for Directed {
-    fn words(&mut self, scene: &Scene) -> Vec<u16> {
-        self.attack.prepare(scene);
-        let mut words = Vec::new();
-        for listener in scene.cards() {
-            for liar in scene.broken_cards() {
-                let mut record = vec![NONE; scene.shape.words()];
-                self.attack.tell(scene, liar, listener, &mut record);
-                words.extend(record);
-            }
-        }
-        words
-    }
-}
-
-/// The attack on one group, and on its good half if that half is split again.
-struct Attack {
     level: Level,
-    bad: usize,
+    good: Level,
+    bad: Level,
+    /// Which half is the bad one.
+    i: usize,
     /// What the broken cards tell as the bad half's output, on this beat and on the one before.
     counter: u16,
     counter_before: u16,
-    /// By how much the bad half's counter is out of step with the good half's after a jump;
-    /// none if it never jumps.
+    /// How far the counter is out of step after a jump, if it ever jumps.
     jumps: Option<u16>,
-    /// What the broken cards tell each listener as the group's output.
+    /// What the broken cards tell each card of the group as their a.
     outputs: Vec<u16>,
-    inner: Option<Box<Attack>>,
+    inner: Option<Box<Directed>>,
 }
 
-impl Attack {
-    fn new(level: Level, random: &mut Random) -> Attack {
-        let bad = random.below(2);
-        let good_half = level.half(1 - bad);
-        let counter = random.below(level.half(bad).group.c.into()) as u16;
-        Attack {
+impl Directed {
+    /// An attack on a split group.
+    pub fn new(level: Level, random: &mut Random) -> Directed {
+        let i = random.below(2);
+        let (good, bad) = (level.half(1 - i), level.half(i));
+        let counter = random.below(bad.group.c.into()) as u16;
+        // Half 0 points to itself for t beats, too short for half 1's turn of 3t.
+        let jumps = random.pick(&[None, Some(1), Some(2)]).filter(|_| i == 1);
+        let inner = good.group.is_split();
+        Directed {
             level,
+            good,
             bad,
+            i,
             counter,
             counter_before: counter,
-            jumps: random.pick(&[None, Some(1), Some(2)]),
+            jumps,
             outputs: Vec::new(),
-            inner: good_half
-                .group
-                .is_split()
-                .then(|| Box::new(Attack::new(good_half, random))),
+            inner: inner.then(|| Box::new(Directed::new(good, random))),
         }
     }
 
-    fn bad_half(&self) -> Level {
-        self.level.half(self.bad)
-    }
-
-    fn good_half(&self) -> Level {
-        self.level.half(1 - self.bad)
-    }
-
-    /// One card more than the bad half bears, its first member among them, and as many as the
-    /// good half bears.
-    fn broken(&self, random: &mut Random) -> u32 {
-        let half = self.bad_half();
-        let mut broken: u32 = 1 << half.cards().start;
-        while broken.count_ones() as usize <= half.group.f {
-            broken |= 1 << (half.cards().start + random.below(half.group.n));
+    /// The broken set: in the bad half one card more than it bears, its first card among them,
+    /// and in the good half as many as it bears.
+    pub fn broken(&self, random: &mut Random) -> u32 {
+        let first = self.bad.cards().start;
+        let mut broken: u32 = 1 << first;
+        while broken.count_ones() as usize <= self.bad.group.f {
+            broken |= 1 << (first + random.below(self.bad.group.n));
         }
         broken | self.inner.as_ref().map_or(0, |inner| inner.broken(random))
     }
 
-    fn prepare(&mut self, scene: &Scene) {
-        self.counter_before = self.counter;
-        self.counter = self
-            .jump(scene)
-            .unwrap_or_else(|| count::next(self.counter, self.bad_half().group.c));
-        self.outputs = divide(scene, self.level);
-        if let Some(inner) = &mut self.inner {
-            inner.prepare(scene);
-        }
+    fn t(&self) -> u16 {
+        params::t(self.level.group.f)
     }
 
+    /// d0 and d1 as the first sound card of a half has them.
+    fn observed_in(&self, half: Level, scene: &Scene) -> [Option<u16>; 2] {
+        self.level.observed(scene.record(first_sound(scene, half)))
+    }
+
+    /// The count that half 1's counter jumps to, where it would not point to itself throughout
+    /// the next turn of half 0. It jumps as the last king's turn begins: when the jump is noticed,
+    /// that king has no whole turn left.
     fn jump(&self, scene: &Scene) -> Option<u16> {
-        let shift = self.jumps.filter(|_| self.bad == 1)?;
-        let seen = |half: Level| {
-            let card = half.cards().find(|&card| scene.is_sound(card)).unwrap();
-            self.level.observed(scene.record(card))
+        let out_of_step = self.jumps?;
+        let [good, _] = self.observed_in(self.good, scene);
+        let [_, bad] = self.observed_in(self.bad, scene);
+        let (t, last_king) = (self.t(), self.t() - 3);
+        let until_turn = i32::from(2 * t - last_king);
+        let then = stepped(bad?, 6 * t, until_turn);
+        let points_to_itself = then >= 3 * t && then + last_king < 6 * t;
+        // What is told on this beat is a vote two beats later.
+        let told = stepped(3 * t + out_of_step, 6 * t, 2 - until_turn);
+        Some(told).filter(|_| good == Some(last_king) && !points_to_itself)
+    }
+
+    /// What a card of the bad half tells as that half's output.
+    ///
+    /// A vote that only the bad half's cards are to see must hang on the broken cards, so one
+    /// card of the good half, the decoy, is told another output before. An unsplit bad half
+    /// follows its broken first card; it is sent apart still one beat before, or its sound cards
+    /// would outvote that lie.
+    fn bad_output(&self, scene: &Scene, listener: usize) -> u16 {
+        let ahead = match self.counter % self.t() {
+            0 if !self.bad.group.is_split() && self.bad.has(listener) => {
+                listener - self.bad.cards().start
+            }
+            1 if listener == first_sound(scene, self.good) => 1,
+            _ => 0,
         };
-        let t = params::t(self.level.group.f);
-        let good = seen(self.good_half())[0]?;
-        let bad = seen(self.bad_half())[1]?;
-        let at_next_turn = stepped(bad, 6 * t, i32::from(t) + 3);
-        let serves = at_next_turn >= 3 * t && at_next_turn + t - 3 < 6 * t;
-        (good == t - 3 && !serves).then(|| 2 * t + shift - 1)
+        self.counter + ahead as u16
     }
 
-    fn tell(&self, scene: &Scene, liar: usize, listener: usize, record: &mut [u16]) {
-        if !self.level.cards().contains(&listener) {
-            return;
-        }
-        record[self.level.word(split::SMALL_M + self.bad)] = self.vote_told(listener);
-        record[self.level.output_word()] = self.outputs[listener - self.level.cards().start];
-        if self.level.half_of(liar) == self.bad {
-            record[self.bad_half().output_word()] = self.output_told(scene, listener);
-        } else if let Some(inner) = &self.inner {
-            inner.tell(scene, liar, listener, record);
-        }
-    }
-
-    fn vote_told(&self, listener: usize) -> u16 {
-        let t = params::t(self.level.group.f);
-        if self.counter_before % t == 1 && self.good_half().cards().contains(&listener) {
+    /// What all broken cards tell as their m of the bad half. Once in t beats the good half's
+    /// cards miss the vote, so that their cooldowns never end.
+    fn bad_vote(&self, listener: usize) -> u16 {
+        if self.counter_before % self.t() == 1 && self.good.has(listener) {
             NONE
         } else {
             self.counter_before
         }
     }
 
-    fn output_told(&self, scene: &Scene, listener: usize) -> u16 {
-        let t = params::t(self.level.group.f);
-        let half = self.bad_half();
-        let decoy = self
-            .good_half()
-            .cards()
-            .find(|&card| scene.is_sound(card))
-            .unwrap();
-        let ahead = match self.counter % t {
-            0 if !half.group.is_split() && half.cards().contains(&listener) => {
-                listener - half.cards().start
-            }
-            1 if listener == decoy => 1,
-            _ => 0,
-        };
-        self.counter + ahead as u16
+    fn fill(&self, scene: &Scene, liar: usize, listener: usize, record: &mut [u16]) {
+        if !self.level.has(listener) {
+            return;
+        }
+        record[self.level.word(split::SMALL_M + self.i)] = self.bad_vote(listener);
+        record[self.level.output_word()] = self.outputs[listener - self.level.cards().start];
+        if self.bad.has(liar) {
+            record[self.bad.output_word()] = self.bad_output(scene, listener);
+        } else if let Some(inner) = &self.inner {
+            inner.fill(scene, liar, listener, record);
+        }
     }
 }
 
-/// For each card of the group what the broken ones best tell it as their a.
-fn divide(scene: &Scene, level: Level) -> Vec<u16> {
-    let held: Vec<_> = level
-        .cards()
-        .map(|card| level.output(scene.record(card)).filter(|_| scene.is_sound(card)))
-        .collect();
-    let mut nexts = Vec::new();
-    let mut lies = Vec::new();
-    for listener in level.cards() {
-        if !scene.is_sound(listener) {
-            lies.push(NONE);
-            continue;
+impl Adversary for Directed {
+    fn prepare(&mut self, scene: &Scene) {
+        let next = count::next(self.counter, self.bad.group.c);
+        self.counter_before = self.counter;
+        self.counter = self.jump(scene).unwrap_or(next);
+        self.outputs = divide(scene, self.level);
+        if let Some(inner) = &mut self.inner {
+            inner.prepare(scene);
         }
-        let record = scene.record(listener);
-        let own = Output {
-            a: level.output(record),
-            b: record[level.word(split::B)] == 1,
-        };
-        let d = level.round(listener, record);
-        let next = |lie: Option<u16>| {
-            let heard: Vec<_> = level
-                .cards()
-                .zip(&held)
-                .map(|(card, &a)| if is_broken(scene.broken, card) { lie } else { a })
-                .collect();
-            king::step(level.group, d, own, &heard).a
-        };
-        let mut candidates = held.clone();
-        candidates.push(None);
-        candidates.extend([Some(0), Some(1)]);
-        let best = candidates
-            .into_iter()
-            .min_by_key(|&lie| count::times(next(lie), &nexts))
-            .unwrap();
-        nexts.push(next(best));
-        lies.push(count::write(best));
     }
-    lies
+
+    /// None in every word that the attack does not need: the sound cards of a split bad half
+    /// then find no votes within it, and have no output to set against the broken cards'.
+    fn tell(&mut self, scene: &Scene, liar: usize, listener: usize) -> Vec<u16> {
+        let mut record = vec![NONE; scene.shape.words()];
+        self.fill(scene, liar, listener, &mut record);
+        record
+    }
+}
+
+fn first_sound(scene: &Scene, level: Level) -> usize {
+    let mut sound = level.cards().filter(|&card| scene.is_sound(card));
+    sound.next().expect("every half has a sound card")
 }

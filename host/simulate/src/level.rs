@@ -7,7 +7,7 @@ use second::generate::Shape;
 use second::group::Group;
 use second::split;
 
-/// One group of a run: the outermost, or a half of a half of it.
+/// One group of a run: the outermost, or a half, or a half of a half.
 #[derive(Clone, Copy, Debug)]
 pub struct Level {
     pub group: Group,
@@ -33,7 +33,7 @@ impl Level {
         }
     }
 
-    /// The groups that a card belongs to, outermost first.
+    /// The groups that a card belongs to, outermost first. All but the last are split.
     pub fn path(shape: Shape, card: usize) -> Vec<Level> {
         let mut level = Level::outermost(shape);
         let mut path = vec![level];
@@ -49,12 +49,21 @@ impl Level {
         self.first_card..self.first_card + self.group.n
     }
 
+    pub fn has(self, card: usize) -> bool {
+        self.cards().contains(&card)
+    }
+
     /// The half that one of its cards belongs to.
     pub fn half_of(self, card: usize) -> usize {
         self.group.half_of(card - self.first_card)
     }
 
-    /// Where one of its eight words m0 m1 M0 M1 w0 w1 a b stands in a record.
+    /// Whether two cards belong to one half of this group.
+    pub fn has_in_one_half(self, one: usize, other: usize) -> bool {
+        self.has(one) && self.has(other) && self.half_of(one) == self.half_of(other)
+    }
+
+    /// Where one of its words m0 m1 M0 M1 w0 w1 a b stands in a record.
     pub fn word(self, place: usize) -> usize {
         self.first_word + place
     }
@@ -66,6 +75,25 @@ impl Level {
 
     pub fn output(self, record: &[u16]) -> Option<u16> {
         self.group.output(&record[self.first_word..])
+    }
+
+    /// d0 and d1 as the holder of a record has them: its votes, where the cooldown is over.
+    pub fn observed(self, record: &[u16]) -> [Option<u16>; 2] {
+        [0, 1].map(|i| {
+            let vote = record[self.word(split::BIG_M + i)];
+            let cooldown = record[self.word(split::W + i)];
+            count::read(vote, self.group.half(i).c).filter(|_| cooldown == 0)
+        })
+    }
+
+    /// d as a card with this record has it: it names the step and the king.
+    pub fn round(self, card: usize, record: &[u16]) -> u16 {
+        split::round(self.group.f, self.half_of(card), self.observed(record))
+    }
+
+    /// Whether a card with this record takes itself for the king.
+    pub fn is_king(self, card: usize, record: &[u16]) -> bool {
+        self.first_card + usize::from(self.round(card, record) / 3) == card
     }
 
     /// Where its counts stand in a record, each with its modulus.
@@ -80,27 +108,9 @@ impl Level {
         }
         counts
     }
-
-    /// d0 and d1 as the holder of this record has them: its votes, where the cooldown is over.
-    pub fn observed(self, record: &[u16]) -> [Option<u16>; 2] {
-        [0, 1].map(|i| {
-            let vote = count::read(record[self.word(split::BIG_M + i)], self.group.half(i).c);
-            vote.filter(|_| record[self.word(split::W + i)] == 0)
-        })
-    }
-
-    /// d as a card with this record has it: it names the step and the king.
-    pub fn round(self, card: usize, record: &[u16]) -> u16 {
-        split::round(self.group.f, self.half_of(card), self.observed(record))
-    }
-
-    /// Whether a card with this record takes itself for the king.
-    pub fn is_king(self, card: usize, record: &[u16]) -> bool {
-        usize::from(self.round(card, record) / 3) == card - self.first_card
-    }
 }
 
-/// The record with every count moved by so many steps, each modulo its own modulus; none stays.
+/// A record with every count moved by so many steps; none stays.
 pub fn moved(path: &[Level], record: &[u16], steps: i32) -> Vec<u16> {
     let mut moved = record.to_vec();
     for (place, modulus) in path.iter().flat_map(|level| level.counts()) {

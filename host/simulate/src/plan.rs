@@ -1,78 +1,117 @@
-//! One run from its seed: the shape, the broken cards and how they lie, and the start.
+//! One run from its seed: the shape, the start, the broken cards and how they lie.
 
+use second::count;
 use second::generate::Shape;
+use second::params;
 use second::random::Random;
 
 use crate::cooldown::Cooldown;
 use crate::directed::Directed;
 use crate::level::Level;
+use crate::liars::Liars;
 use crate::scene::{Adversary, Scene};
 use crate::start::Start;
-use crate::strategy::{Strategy, Telling, STRATEGIES};
-use second::count;
+use crate::strategy::{Strategy, STRATEGIES};
+
+/// How the broken cards of a run lie.
+#[derive(Clone, Copy)]
+pub enum Lies {
+    Alike(Strategy),
+    Mixed,
+    Directed,
+}
+
+impl Lies {
+    /// The directed adversary has most to try out: when to jump, and at which phase.
+    pub fn random(random: &mut Random) -> Lies {
+        match random.below(6) {
+            0 | 1 => Lies::Directed,
+            2 => Lies::Mixed,
+            _ => Lies::Alike(random.pick(&STRATEGIES)),
+        }
+    }
+
+    pub fn name(self) -> &'static str {
+        match self {
+            Lies::Alike(strategy) => strategy.name,
+            Lies::Mixed => "mixed",
+            Lies::Directed => "directed",
+        }
+    }
+}
 
 pub struct Plan {
     pub shape: Shape,
-    pub broken: u32,
     pub start: Start,
-    pub liars: &'static str,
+    pub broken: u32,
+    lies: Lies,
     table: Vec<u16>,
     adversary: Box<dyn Adversary>,
-}
-
-pub struct Liars {
-    strategies: Vec<Strategy>,
-    random: Random,
-}
-
-impl Adversary for Liars {
-    fn words(&mut self, scene: &Scene) -> Vec<u16> {
-        let mut words = Vec::new();
-        for listener in scene.cards() {
-            for (liar, strategy) in scene.broken_cards().zip(&self.strategies) {
-                let telling = Telling { scene, liar, listener };
-                words.extend((strategy.tell)(&telling, &mut self.random));
-            }
-        }
-        words
-    }
 }
 
 impl Plan {
     pub fn of(seed: u64) -> Plan {
         let mut random = Random::new(seed);
         let shape = Shape::random(&mut random);
-        let start = random.pick(&Start::ALL);
-        let table = start.table(shape, &mut random);
-        let kind = random.below(4);
-        if kind == 0 && shape.f > 0 {
-            let directed = Directed::new(Level::outermost(shape), &mut random);
-            return Plan { shape, broken: directed.broken, start, liars: "directed", table, adversary: Box::new(directed) };
-        }
-        let broken = shape.broken_set(&mut random);
-        let (liars, strategies) = if kind == 1 {
-            ("mix", (0..shape.f).map(|_| random.pick(&STRATEGIES)).collect())
-        } else {
-            let strategy = random.pick(&STRATEGIES);
-            (strategy.name, vec![strategy; shape.f as usize])
-        };
-        Plan { shape, broken, start, liars, table, adversary: Box::new(Liars { strategies, random }) }
+        let lies = Lies::random(&mut random);
+        Plan::new(shape, lies, random)
     }
 
-    pub fn settled_at(mut self, cooldown: Cooldown, beats: usize) -> Option<usize> {
-        let mut scene = Scene::new(self.shape, self.broken, self.table, cooldown);
-        let modulus = self.shape.c as u16;
-        let mut together: Option<(usize, u16)> = None;
-        loop {
-            together = match (scene.common_count(), together) {
-                (Some(count), Some((since, before))) if count == count::next(before, modulus) => Some((since, count)),
-                (Some(count), _) => Some((scene.beat, count)),
-                (None, _) => None,
-            };
-            if scene.beat == beats { break; }
-            let words = self.adversary.words(&scene);
-            scene.advance(&words);
+    pub fn new(shape: Shape, lies: Lies, mut random: Random) -> Plan {
+        let start = random.pick(&Start::ALL);
+        let table = start.table(shape, &mut random);
+        let (broken, adversary): (u32, Box<dyn Adversary>) = match lies {
+            Lies::Directed if shape.f > 0 => {
+                let directed = Directed::new(Level::outermost(shape), &mut random);
+                (directed.broken(&mut random), Box::new(directed))
+            }
+            _ => {
+                let broken = shape.broken_set(&mut random);
+                let strategies = match lies {
+                    Lies::Alike(strategy) => vec![strategy],
+                    _ => (0..shape.n).map(|_| random.pick(&STRATEGIES)).collect(),
+                };
+                (broken, Box::new(Liars::new(strategies, random)))
+            }
+        };
+        Plan {
+            shape,
+            start,
+            broken,
+            lies,
+            table,
+            adversary,
         }
-        together.map(|(since, _)| since)
+    }
+
+    /// T(f).
+    pub fn bound(&self) -> usize {
+        params::settled(self.shape.f as usize)
+    }
+
+    /// The name of how the broken cards lie, if there are any.
+    pub fn lies(&self) -> &'static str {
+        if self.broken == 0 {
+            "nobody"
+        } else {
+            self.lies.name()
+        }
+    }
+
+    /// The beat since when all sound cards show one same count and go on by one, if they do
+    /// after so many beats.
+    pub fn together_since(mut self, cooldown: Cooldown, beats: usize) -> Option<usize> {
+        let modulus = self.shape.c as u16;
+        let mut scene = Scene::new(self.shape, self.broken, self.table, cooldown);
+        let mut since = scene.common_count().map(|_| 0);
+        while scene.beat < beats {
+            let awaited = scene.common_count().map(|now| count::next(now, modulus));
+            scene.advance(self.adversary.as_mut());
+            let now = scene.common_count();
+            if now != awaited || now.is_none() {
+                since = now.map(|_| scene.beat);
+            }
+        }
+        since
     }
 }

@@ -1,6 +1,7 @@
 //! The cards of one run, beat by beat, as the broken ones see them: they know everything.
 
 use std::collections::VecDeque;
+use std::ops::Range;
 
 use second::beat::is_broken;
 use second::card;
@@ -12,6 +13,16 @@ use crate::level::Level;
 /// How many beats back the broken cards remember.
 pub const REMEMBERED: usize = 8;
 
+/// What decides the words of the broken cards.
+pub trait Adversary {
+    /// The record that a broken card tells a listener on the next beat.
+    fn tell(&mut self, scene: &Scene, liar: usize, listener: usize) -> Vec<u16>;
+
+    /// Called once before each beat.
+    fn prepare(&mut self, _: &Scene) {}
+}
+
+/// What the cards of a run hold, and have held.
 pub struct Scene {
     pub shape: Shape,
     pub broken: u32,
@@ -21,13 +32,6 @@ pub struct Scene {
     paths: Vec<Vec<Level>>,
     /// The newest table first. A broken card's record is what it would hold if it were sound.
     tables: VecDeque<Vec<u16>>,
-}
-
-/// What decides the words of the broken cards.
-pub trait Adversary {
-    /// The words sent on the next beat: "for each receiver in order, for each broken card in
-    /// order, W words".
-    fn words(&mut self, scene: &Scene) -> Vec<u16>;
 }
 
 impl Scene {
@@ -41,7 +45,7 @@ impl Scene {
             paths: cards.map(|card| Level::path(shape, card)).collect(),
             tables: VecDeque::new(),
         };
-        scene.show(start);
+        scene.hold(start);
         scene
     }
 
@@ -50,7 +54,7 @@ impl Scene {
         &self.paths[card]
     }
 
-    pub fn cards(&self) -> std::ops::Range<usize> {
+    pub fn cards(&self) -> Range<usize> {
         0..self.shape.n as usize
     }
 
@@ -62,7 +66,7 @@ impl Scene {
         self.cards().filter(move |&card| self.is_sound(card))
     }
 
-    pub fn broken_cards(&self) -> impl DoubleEndedIterator<Item = usize> + '_ {
+    pub fn broken_cards(&self) -> impl Iterator<Item = usize> + '_ {
         self.cards().filter(move |&card| !self.is_sound(card))
     }
 
@@ -86,20 +90,27 @@ impl Scene {
         first.filter(|_| shown.all(|count| count == first))
     }
 
-    /// One beat with these words from the broken cards.
-    pub fn advance(&mut self, words: &[u16]) {
+    /// One beat.
+    pub fn advance(&mut self, adversary: &mut dyn Adversary) {
+        adversary.prepare(self);
+        let mut words = Vec::new();
+        for listener in self.cards() {
+            for liar in self.broken_cards() {
+                words.extend(adversary.tell(self, liar, listener));
+            }
+        }
         let now = &self.tables[0];
-        let mut next = self.shape.after_beat(self.broken, now, words);
+        let mut next = self.shape.after_beat(self.broken, now, &words);
         let Shape { n, f, c } = self.shape;
         for card in self.broken_cards() {
             let record = &mut next[card * self.shape.words()..][..self.shape.words()];
             card::step(n, f, c, card as u32, now, record).expect("a table is within the rules");
         }
         self.beat += 1;
-        self.show(next);
+        self.hold(next);
     }
 
-    fn show(&mut self, mut table: Vec<u16>) {
+    fn hold(&mut self, mut table: Vec<u16>) {
         let records = table.chunks_exact_mut(self.shape.words());
         for (path, record) in self.paths.iter().zip(records) {
             self.cooldown.cap(path, record);
