@@ -10,6 +10,7 @@ use lib.Dec.{eqb}
 use lib.ListN.{length, take, drop, length-append, length-take, length-drop, take-append-drop}
 use lib.Seq.{sets, sets-eq, take-all, take-at, take-append-add, drop-length, length-take-le}
 use Rattle.rules.specs.Text.{wordsAt}
+use Rattle.rules.specs.WholeBeat.{tableAfter}
 use Rattle.rules.specs.RunFile.{Header, Run, atHeader, atStart, atBeat, Taken, accepted, refused, startWords, beatWords, headerRefusal, startRefusal, beatRefusal, orRefused, takeLine, atEnd, refusalLine}
 use Rattle.rules.proofs.Tests.{decided, le-or-lt}
 use Rattle.text.specs.Lines.{lineLength, endFrom}
@@ -22,9 +23,10 @@ use Rattle.runfile.specs.declared.feed.Feed.the-variants.{Reading, Stopp
 use Rattle.runfile.specs.Headers.{said}
 use Rattle.runfile.specs.Feeds.{runTests, takenLine, lineOf, Feed, reading, stopped, longest, afterLine, ended, fed, lastFed, allWritten, finished}
 use Rattle.runfile.specs.Runs.{standing, keptOf, tableOf, answerOf, tableIn, textIn, Takes}
-use Rattle.runfile.specs.Calls.{numberOf, missing, feedOf, keptFeed, recordsOf, writtenBy, goingOn, heldWith, placeIn, nextOf, partTo, lineEnd, partFrom, lineAfter, Holds, Stands, Feeds, Finishes}
-use Rattle.runfile.proofs.Headers.{start-most}
+use Rattle.runfile.specs.Calls.{mostWritten, numberOf, missing, feedOf, keptFeed, recordsOf, writtenBy, goingOn, heldWith, placeIn, nextOf, partTo, lineEnd, partFrom, lineAfter, Holds, Stands, Feeds, Finishes}
+use Rattle.runfile.proofs.Headers.{good, start-most}
 use Rattle.runfile.proofs.Stores.{prefix-stored, first-taken}
+use Rattle.runfile.proofs.Shown.{line-length, refusal-length}
 use Rattle.runfile.proofs.Pieces.{unrefused, unrefused-text, fed-stopped, part-held, part-ended}
 use Rattle.runfile.proofs.Takes.{after-length}
 
@@ -89,6 +91,21 @@ accepted-sized run next line text size e l =
     let p = taken-passed run next line text e in
     line-sized run next line text size (p .0) (p .1) l
 
+-- and its output line is short
+line-short : (run next : Run) (line text : List ℕ) → runTests run ≡ 0 → takeLine run line ≡ accepted next text → length text ≤ mostWritten
+unfolding takeLine runTests
+line-short atHeader next line text z e = rw (← (unrefused-text (headerRefusal line) _ next _ text e)) (omega arith)
+line-short (atStart h) next line text z e =
+    rw (← (unrefused-text (startRefusal h line) _ next _ text e)) (omega (arith, line-length h 0 (wordsAt line 4 (startWords h)), good h z .shape .cards))
+line-short (atBeat h beat table) next line text z e =
+    rw (← (unrefused-text (beatRefusal h beat line) _ next _ text e))
+    (omega (arith, line-length h (beat + 1) (tableAfter (h .n) (h .f) (h .c) (h .set) table (wordsAt line 4 (beatWords h))), good h z .shape .cards))
+
+pub accepted-short : (run next : Run) (line text : List ℕ) → takenLine run line ≡ accepted next text → length text ≤ mostWritten
+accepted-short run next line text e =
+    let p = taken-passed run next line text e in
+    line-short run next line text (p .0) (p .1)
+
 -- no line is refused by 0
 none-refused : (refusal : ℕ) (t : Taken) → (t ≡ refused 0 → ⊥) → orRefused refusal t ≡ refused 0 → ⊥
 unfolding orRefused
@@ -122,6 +139,7 @@ ends-refused run (refused refusal) table out line r tableNext outNext outLast wr
     record {
       feed-is = refl;
       written-is = rw (number-is run table, ← k) w;
+      short = omega (arith, w, refusal-length (numberOf run) (r .refusal));
       records = t .records;
       text = rw (number-is run table, ← k, ← (t .line)) o;
       goes-on = refl;
@@ -129,7 +147,7 @@ ends-refused run (refused refusal) table out line r tableNext outNext outLast wr
 
 -- and so is an accepted one
 pub ends-accepted : (run : KeptRun) (t : Taken) (table out line : List ℕ) (r : Answer) (tableNext outNext : List ℕ)
-    → (t ≡ refused 0 → ⊥) → ((next : Run) (text : List ℕ) → t ≡ accepted next text → Sized next (length table))
+    → (t ≡ refused 0 → ⊥) → ((next : Run) (text : List ℕ) → t ≡ accepted next text → Sized next (length table) × (length text ≤ mostWritten))
     → Takes run t table out r tableNext outNext → r .refusal ≡ 0
     → Stands (afterLine (standing run table) [] t) (Reading (r .run) 0) (r .written) table out line tableNext outNext
 unfolding afterLine keptFeed recordsOf writtenBy goingOn feedOf answerOf tableIn textIn
@@ -138,9 +156,10 @@ ends-accepted run (accepted next text) table out line r tableNext outNext n s t 
     record {
       feed-is = rw k;
       written-is = ap (λ (a : Answer). a .written) (t .answer);
+      short = rw (t .answer) (s next text refl .1);
       records = t .records;
       text = t .line;
-      goes-on = rw (k, t .records, stands-again next table (s next text refl));
+      goes-on = rw (k, t .records, stands-again next table (s next text refl .0));
     }
 ends-accepted run (refused refusal) table out line r tableNext outNext n s t z =
     let k : r .refusal ≡ refusal = ap (λ (a : Answer). a .refusal) (t .answer) in
@@ -204,6 +223,7 @@ holds-stands run held r line part table out lineNext h =
     record {
       feed-is = rw (run-is run table, ← (h .count));
       written-is = refl;
+      short = omega arith;
       records = sym (records-stay run table);
       text = refl;
       goes-on = rw (h .whole);
@@ -212,7 +232,7 @@ holds-stands run held r line part table out lineNext h =
 stopped-stands : (part line table out : List ℕ) → Stands (fed (feedOf Stopped line table) part) Stopped 0 table out line table out
 unfolding keptFeed recordsOf writtenBy goingOn feedOf
 stopped-stands part line table out =
-    rw (fed-stopped [] part) (record { feed-is = refl; written-is = refl; records = refl; text = refl; goes-on = refl })
+    rw (fed-stopped [] part) (record { feed-is = refl; written-is = refl; short = omega arith; records = refl; text = refl; goes-on = refl })
 
 -- a part of a piece is fed, from a place that may lie behind it
 pub feeds-reading : (run : KeptRun) (held at from end next : ℕ) (piece line table out lineNext tableNext outNext : List ℕ) (feed : Kept) (written : ℕ)
@@ -244,6 +264,12 @@ missing-kept atHeader = refl
 missing-kept (atStart h) = refl
 missing-kept (atBeat h beat table) = refl
 
+missing-short : (run : KeptRun) → length (missing run) ≤ 15
+unfolding missing
+missing-short AtHeader = omega (arith, refusal-length 1 10)
+missing-short (AtStart h) = omega (arith, refusal-length 2 10)
+missing-short (AtBeat h beat) = omega arith
+
 -- no character of the last line is held
 pub finishes-none : (run : KeptRun) (held : ℕ) (line table out : List ℕ) (r : ℕ) (outNext : List ℕ) → held ≡ 0
     → r ≡ length (missing run) → outNext ≡ sets out 0 (missing run)
@@ -252,13 +278,14 @@ unfolding feedOf finished lastFed allWritten recordsOf
 finishes-none run held line table out r outNext e w o =
     record {
       written = rw (e, missing-is run table) w;
+      short = omega (arith, w, missing-short run);
       records = rw e (sym (records-stay run table));
       text = rw (e, missing-is run table) o;
     }
 
 pub finishes-stopped : (line table out : List ℕ) → Finishes (feedOf Stopped line table) table out 0 table out
 unfolding feedOf finished lastFed allWritten recordsOf
-finishes-stopped line table out = record { written = refl; records = refl; text = refl }
+finishes-stopped line table out = record { written = refl; short = omega arith; records = refl; text = refl }
 
 -- some are: the line is at its end
 last-is : (run : Run) (held written : List ℕ) → 0 < length held → lastFed (reading run held written) ≡ ended run held written
@@ -281,7 +308,7 @@ finishes-refused m (reading run held text) table out lineNext tableNext outNext 
     let z : _≡_ {A = ℕ} 0 1 = cc in
     absurd (omega arith)
 finishes-refused m (stopped text) table out lineNext tableNext outNext feed written e k s =
-    record { written = rw e (s .written-is); records = rw e (s .records); text = rw e (s .text) }
+    record { written = rw e (s .written-is); short = s .short; records = rw e (s .records); text = rw e (s .text) }
 
 -- after an accepted last line either it or the missing one is written
 pub finishes-accepted : (m last : Feed) (table out lineNext tableNext outNext outLast : List ℕ) (feed : Kept) (next : KeptRun) (held written more : ℕ)
@@ -299,6 +326,10 @@ finishes-accepted m (reading run kept text) table out lineNext tableNext outNext
     let q : atEnd (lineOf run) run ≡ missing next = sym (missing-kept run) ∙ ap missing n in
     record {
       written = rw (e, q) (omega (arith, s .written-is, length-append text (missing next)));
+      short = ⊎-elim
+          (λ (p : text ≡ []). let z : written ≡ 0 = s .written-is ∙ ap length p in omega (arith, missing-short next))
+          (λ (p : missing next ≡ []). let z : more ≡ 0 = w ∙ ap length p in omega (arith, s .short))
+          one;
       records = rw e (s .records);
       text = rw (e, q) (o ∙ rw (s .text) (both text (missing next) one));
     }

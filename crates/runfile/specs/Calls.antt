@@ -1,5 +1,5 @@
 -- What the calls on pieces do: the machine as it is kept, in a struct and in the caller's buffers. Assumes nothing.
-use Prim.Native.Nat.{ℕ, _+_, _-_, min}
+use Prim.Native.Nat.{ℕ, _+_, _-_, _≤_, min}
 use mathlib.Core.Path.{_≡_}
 use mathlib.Core.List.{List, [], _++_}
 use lib.ListN.{length, take, drop}
@@ -53,10 +53,15 @@ pub record Holds (line : List ℕ) (held : ℕ) (part : List ℕ) (r : ℕ) (lin
   pub kept : lineNext ≡ heldWith line held part
   pub whole : take r lineNext ≡ take longest (take held line ++ part)
 
+-- the longest output line: 4 digits, 4 for each of 16 cards, and a line feed
+abbrev pub mostWritten : ℕ
+mostWritten = 69
+
 -- The machine stands at m: what is answered, and what the buffers hold. From there it goes on as m does.
 pub record Stands (m : Feed) (feed : Kept) (written : ℕ) (table out lineNext tableNext outNext : List ℕ) : Type 0 where
   pub feed-is : feed ≡ keptFeed m
   pub written-is : written ≡ length (writtenBy m)
+  pub short : written ≤ mostWritten
   pub records : tableNext ≡ sets table 0 (recordsOf m)
   pub text : outNext ≡ sets out 0 (writtenBy m)
   pub goes-on : feedOf feed lineNext tableNext ≡ goingOn m
@@ -97,5 +102,6 @@ missing (AtBeat h beat) = []
 -- the input is at its end
 pub record Finishes (m : Feed) (table out : List ℕ) (r : ℕ) (tableNext outNext : List ℕ) : Type 0 where
   pub written : r ≡ length (finished m)
+  pub short : r ≤ mostWritten
   pub records : tableNext ≡ sets table 0 (recordsOf (lastFed m))
   pub text : outNext ≡ sets out 0 (finished m)

@@ -8,7 +8,7 @@ use lib.Seq.{sets, length-take-le}
 use Rattle.rules.specs.RunFile.{refusalLine}
 use Rattle.runfile.specs.Feeds.{ended}
 use Rattle.runfile.specs.Runs.{standing}
-use Rattle.runfile.proofs.Calls.{taken-not-0, accepted-sized, ends-refused, ends-accepted}
+use Rattle.runfile.proofs.Calls.{taken-not-0, accepted-sized, accepted-short, ends-refused, ends-accepted}
 use Rattle.runfile.proofs.feed.end_line.Statement.{statement}
 use Rattle.runfile.proofs.feed.end_line.Tie as tie
 
@@ -30,7 +30,7 @@ accepted c =
     let line = take (a .held) (a .line .now) in
     let run = standing (a .run) (a .table .now) in
     ends-accepted (a .run) _ (a .table .now) (a .out .now) (a .line .now) (t .line-taken .result) _ _
-    (taken-not-0 run line) (λ next text e. accepted-sized run next line text _ e (s .pre .1)) (t .line-taken .ensures) (c .if1 .left)
+    (taken-not-0 run line) (λ next text e. (accepted-sized run next line text _ e (s .pre .1), accepted-short run next line text e)) (t .line-taken .ensures) (c .if1 .left)
 
 pub end-line-spec : {M : Type 1} → statement M
 end-line-spec =
