@@ -5,3 +5,5 @@ pub mod Shown
 pub mod Pieces
 pub mod Takes
 pub mod Calls
+pub mod Whole
+pub mod Determined

@@ -1,7 +1,7 @@
 -- What the calls on pieces do: the machine as it is kept, in a struct and in the caller's buffers. Assumes nothing.
 use Prim.Native.Nat.{ℕ, _+_, _-_, _≤_, min}
 use mathlib.Core.Path.{_≡_}
-use mathlib.Core.List.{List, [], _++_}
+use mathlib.Core.List.{List, [], _∷_, _++_}
 use lib.ListN.{length, take, drop}
 use lib.Seq.{sets}
 use Rattle.text.specs.Lines.{endFrom}
@@ -105,3 +105,8 @@ pub record Finishes (m : Feed) (table out : List ℕ) (r : ℕ) (tableNext outNe
   pub short : r ≤ mostWritten
   pub records : tableNext ≡ sets table 0 (recordsOf (lastFed m))
   pub text : outNext ≡ sets out 0 (finished m)
+
+-- what the calls on the parts of a text write, one after the other: each writes its own text, and the last what is left
+unfoldable pub callsWrite : Feed → List (List ℕ) → List ℕ
+callsWrite feed [] = finished feed
+callsWrite feed (part ∷ others) = writtenBy (fed feed part) ++ callsWrite (goingOn (fed feed part)) others
