@@ -6,6 +6,7 @@ use mathlib.Core.Logic.{⊎-elim}
 use Prim.Native.Nat.{ℕ, _+_, _-_, _≤_, _<_}
 use native.Mathlib.Omega.{arith}
 use borrow.Author.Count.{below-more}
+use Rattle.rules.specs.declared.Vote.{Vote}
 use Rattle.rules.specs.declared.Vote.the-variants.{Count, None}
 use Rattle.rules.specs.Groups.{readVote}
 use Rattle.rules.specs.OneBeat.{sentBy}
@@ -56,11 +57,14 @@ loop-again c =
     )))
     (c .if1 .came)
 
+-- the votes of the column
+abbrev votes : tie.After-loop Inv-loop μ-loop → ℕ → Vote
+votes c = votesIn (c .before .before .before .args .c) (c .before .before .before .args .recs .now) (c .before .before .before .args .col)
+
 -- what was sent and lies below the best is not supported
-passed : (c : tie.After-loop Inv-loop μ-loop) → (v x : ℕ) → v < c .before .before .before .args .col .n
-    → votesIn (c .before .before .before .args .c) (c .before .before .before .args .recs .now) (c .before .before .before .args .col) v ≡ Count x
-    → x < c .before .loop .best
-    → sentBy (c .before .before .before .args .col .n) (votesIn (c .before .before .before .args .c) (c .before .before .before .args .recs .now) (c .before .before .before .args .col)) (Count x) ≤ c .before .before .before .args .f
+passed : (c : tie.After-loop Inv-loop μ-loop)
+    → let a = c .before .before .before .args in
+    (v x : ℕ) → v < a .col .n → votes c v ≡ Count x → x < c .before .loop .best → sentBy (a .col .n) (votes c) (Count x) ≤ a .f
 passed c v x lv e l =
     let a = c .before .before .before .args in
     let s : wordIn (a .recs .now) (a .col) v ≡ x = read-is (a .c) (wordIn (a .recs .now) (a .col) v) x e .0 in

@@ -6,6 +6,7 @@ use mathlib.Core.Logic.{⊎-elim}
 use Prim.Native.Nat.{ℕ, _+_, _-_, _≤_, _<_}
 use native.Mathlib.Omega.{arith}
 use lib.ListN.{length, getD, set, length-set}
+use Rattle.rules.specs.declared.Vote.{Vote}
 use Rattle.rules.specs.declared.Vote.the-variants.{Count, None}
 use Rattle.rules.specs.Groups.{readVote}
 use Rattle.rules.specs.OneBeat.{sentBy}
@@ -24,19 +25,23 @@ Inv-loop recs col f m n tally₀ u₀ tally u =
 abbrev μ-loop : tie.MeasureT-loop
 μ-loop recs col f m n tally₀ u₀ tally u = col .n - u
 
--- where x is sent once more
-more : (c : tie.Then1 Inv-loop μ-loop) → (getD (c .before .before .before .loop .tally) (c .before .said .result) 0 + 1 ≤ 256)
-    × (votesIn (c .before .before .before .before .before .args .m) (c .before .before .before .before .before .args .recs .now) (c .before .before .before .before .before .args .col) (c .before .before .before .loop .u) ≡ Count (c .before .said .result))
-    × (sentBy (c .before .before .before .loop .u + 1) (votesIn (c .before .before .before .before .before .args .m) (c .before .before .before .before .before .args .recs .now) (c .before .before .before .before .before .args .col)) (Count (c .before .said .result))
-    ≡ getD (c .before .before .before .loop .tally) (c .before .said .result) 0 + 1)
+-- the votes of the column
+abbrev votes : tie.At-loop Inv-loop μ-loop → ℕ → Vote
+votes l = votesIn (l .before .before .args .m) (l .before .before .args .recs .now) (l .before .before .args .col)
+
+-- where x is sent once more: its tally is small, and is how often it was sent
+more : (c : tie.Then1 Inv-loop μ-loop)
+    → let l = c .before .before .before in
+    let x = c .before .said .result in
+    let again = getD (l .loop .tally) x 0 + 1 in
+    (again ≤ 256) × (votes l (l .loop .u) ≡ Count x) × (sentBy (l .loop .u + 1) (votes l) (Count x) ≡ again)
 more c =
     let l = c .before .before .before in
-    let a = l .before .before .args in
-    let v = votesIn (a .m) (a .recs .now) (a .col) in
+    let m = l .before .before .args .m in
     let x = c .before .said .result in
-    let z : v (l .loop .u) ≡ Count x = ap (readVote (a .m)) (sym (c .before .said .ensures)) ∙ read-below (a .m) x (c .if1 .taken) in
+    let z : votes l (l .loop .u) ≡ Count x = ap (readVote m) (sym (c .before .said .ensures)) ∙ read-below m x (c .if1 .taken) in
     let t = l .loop .inv .2 .counts x (c .if1 .taken) in
-    (omega (arith, sent-le v (l .loop .u) (Count x)), z, sent-yes v (l .loop .u) (Count x) z ∙ ap (λ (k : ℕ). k + 1) (sym t))
+    (omega (arith, sent-le (votes l) (l .loop .u) (Count x)), z, sent-yes (votes l) (l .loop .u) (Count x) z ∙ ap (λ (k : ℕ). k + 1) (sym t))
 
 found : tie.Need-returns Inv-loop μ-loop
 found c =
