@@ -2,7 +2,7 @@
 use mathlib.Core.Path.{_≡_, refl, sym, ap, _∙_}
 use mathlib.Core.Logic.{_⊎_, inl, inr, ⊎-elim}
 use mathlib.Core.Bool.{true, false}
-use mathlib.Core.List.{List, [], _∷_, _++_, append-nil, append-assoc}
+use mathlib.Core.List.{List, [], _∷_, _++_, append-nil}
 use Prim.Native.Nat.{ℕ, _+_, _-_, _≤_, _<_, min}
 use native.Mathlib.Omega.{arith}
 use borrow.Author.Tests.{eqb-true, eqb-false}
@@ -11,7 +11,7 @@ use lib.ListN.{length, take, drop, length-append, length-take, length-drop, take
 use lib.Seq.{sets, sets-eq, take-all, take-at, take-append-add, drop-length, length-take-le}
 use Rattle.rules.specs.Text.{wordsAt}
 use Rattle.rules.specs.WholeBeat.{tableAfter}
-use Rattle.rules.specs.RunFile.{Header, Run, atHeader, atStart, atBeat, Taken, accepted, refused, startWords, beatWords, headerRefusal, startRefusal, beatRefusal, orRefused, takeLine, atEnd, refusalLine}
+use Rattle.rules.specs.RunFile.{Run, atHeader, atStart, atBeat, Taken, accepted, refused, startWords, beatWords, headerRefusal, startRefusal, beatRefusal, orRefused, takeLine, atEnd, refusalLine}
 use Rattle.rules.proofs.Tests.{decided, le-or-lt}
 use Rattle.text.specs.Lines.{lineLength, endFrom}
 use Rattle.text.proofs.WordsOfText.{words-length}

@@ -1,13 +1,13 @@
 -- What is known of a header whose tests are passed, and how long its lines are. Assumes nothing.
-use mathlib.Core.Path.{_≡_, refl, sym, _∙_}
+use mathlib.Core.Path.{_≡_, refl, _∙_}
 use mathlib.Core.Bool.{Bool, true, false}
-use Prim.Native.Nat.{ℕ, _+_, _*_, _≤_}
+use Prim.Native.Nat.{ℕ, _*_, _≤_}
 use native.Mathlib.Nat.{mul-le-mul}
 use native.Mathlib.Omega.{arith}
 use borrow.Author.Tests.{eq-eqb}
-use Rattle.rules.specs.Parameters.{recordWords, badCards, badBroken, badModulus}
-use Rattle.rules.specs.WholeBeat.{brokenBelow, badSet, sentWords}
-use Rattle.rules.specs.Refusals.{given, wrong, shapeRefusal, beatRefusal}
+use Rattle.rules.specs.Parameters.{badCards, badBroken, badModulus}
+use Rattle.rules.specs.WholeBeat.{brokenBelow, badSet}
+use Rattle.rules.specs.Refusals.{given, beatRefusal}
 use Rattle.rules.specs.RunFile.{Header, startWords, beatWords}
 use Rattle.rules.proofs.Records.{words-most, table-most}
 use Rattle.rules.proofs.Shapes.{Beat, beat-accepted}

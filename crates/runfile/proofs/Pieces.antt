@@ -11,11 +11,10 @@ use lib.Dec.{eqb}
 use lib.ListN.{length, take, getD, length-append}
 use lib.Seq.{take-all, take-append-le, length-take-le, take-suc, append-snoc}
 use Rattle.rules.specs.Text.{lineFeed, oneMore, inFront, linesOf, wellFormed}
-use Rattle.rules.specs.RunFile.{Header, Run, atHeader, atStart, atBeat, Taken, accepted, refused, headerOf, headerRefusal, startRefusal, beatRefusal, startWords, beatWords, orRefused, takeLine, atEnd, continued, runLines, runText}
+use Rattle.rules.specs.RunFile.{Run, atHeader, atStart, atBeat, Taken, accepted, refused, headerRefusal, startRefusal, beatRefusal, startWords, beatWords, orRefused, takeLine, continued, runLines, runText}
 use Rattle.rules.proofs.Tests.{decided, le-or-lt}
 use Rattle.rules.proofs.Shapes.{not-given}
 use Rattle.text.specs.Lines.{lineLength}
-use Rattle.runfile.specs.Headers.{testsOf}
 use Rattle.runfile.specs.Feeds.{runTests, takenLine, lineOf, Feed, reading, stopped, longest, withMore, afterLine, ended, fedByte, fed, lastFed, allWritten, finished, start, fedPieces, joined}
 use Rattle.runfile.proofs.Headers.{start-most, sent-most}
 

@@ -3,16 +3,19 @@ use mathlib.Core.Path.{_≡_, refl, sym, ap, _∙_}
 use mathlib.Core.Logic.{⊎-elim}
 use mathlib.Core.Bool.{true, false}
 use mathlib.Core.List.{List, [], _∷_, _++_, append-assoc, append-nil}
-use Prim.Native.Nat.{ℕ}
+use Prim.Native.Nat.{ℕ, _+_, _-_}
+use native.Mathlib.Omega.{arith}
 use lib.Dec.{eqb}
+use lib.ListN.{drop, take-append-drop}
+use lib.Seq.{drop-drop}
 use Rattle.rules.specs.Text.{lineFeed}
 use Rattle.rules.specs.RunFile.{Run, atEnd, Taken, accepted, refused, refusalLine, runText}
 use Rattle.rules.proofs.Tests.{decided}
 use Rattle.runfile.specs.declared.run.Run.the-variants.{AtHeader}
 use Rattle.runfile.specs.declared.feed.Feed.the-variants.{Reading}
-use Rattle.runfile.specs.Feeds.{takenLine, lineOf, Feed, reading, stopped, withMore, afterLine, ended, fedByte, fed, lastFed, allWritten, finished, start, joined}
+use Rattle.runfile.specs.Feeds.{takenLine, lineOf, Feed, reading, stopped, afterLine, ended, fedByte, fed, lastFed, allWritten, finished, start, joined}
 use Rattle.runfile.specs.Runs.{standing}
-use Rattle.runfile.specs.Calls.{feedOf, writtenBy, goingOn, callsWrite}
+use Rattle.runfile.specs.Calls.{feedOf, writtenBy, goingOn, placeIn, nextOf, lineEnd, partFrom, callsWrite}
 use Rattle.runfile.proofs.Pieces.{fed-append, fed-all}
 
 -- some text was written before
@@ -78,3 +81,12 @@ calls-run parts = calls-whole start parts ∙ fed-all (joined parts)
 pub starts : (line table : List ℕ) → feedOf (Reading AtHeader 0) line table ≡ start
 unfolding feedOf standing
 starts line table = refl
+
+-- what a call feeds of a piece, and what it leaves to the next one, are the piece from its place on
+pub part-and-rest : (piece : List ℕ) (at : ℕ) → partFrom piece at ++ drop (nextOf piece (lineEnd piece at)) piece ≡ drop (placeIn piece at) piece
+part-and-rest piece at =
+    let from = placeIn piece at in
+    let next = nextOf piece (lineEnd piece at) in
+    let inside : from + (next - from) ≡ next = omega arith in
+    let rest : drop (next - from) (drop from piece) ≡ drop next piece = drop-drop (next - from) from piece ∙ rw inside in
+    rw (← rest) (take-append-drop (next - from) (drop from piece))

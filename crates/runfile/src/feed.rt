@@ -1,7 +1,7 @@
 // A text that comes in pieces, cut anywhere: the characters of an unfinished line are kept in the caller's buffer.
 ghost use mathlib.Core.Path.{_≡_};
-ghost use Prim.Native.Nat.{_+_, _-_, _≤_, min};
 ghost use mathlib.Core.List.{[]};
+ghost use Prim.Native.Nat.{_+_, _-_, _≤_, min};
 ghost use lib.ListN.{length, take, drop};
 ghost use lib.Seq.{sets};
 ghost use Rattle.text.specs.Lines.{endFrom};
@@ -16,7 +16,7 @@ use text::lines::line_end;
 // One more than the digits of the longest line: 4 and 4 for each of 16·5·25 words.
 const LONGEST: usize = 8005;
 
-// Between two pieces: the run, and how many characters are held of the unfinished line; or a line was refused.
+// Where a run stands between two pieces: the run, and how many characters are held of the unfinished line; or a line was refused.
 pub enum Feed {
     Reading(Run, usize),
     Stopped,

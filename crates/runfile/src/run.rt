@@ -1,8 +1,8 @@
 // A run, one line after the other. The n records stand in the caller's table, from its start on.
 ghost use mathlib.Core.Path.{_≡_};
+ghost use mathlib.Core.Bool.{true};
 ghost use Prim.Native.Nat.{_≤_};
 ghost use lib.ListN.{length};
-ghost use mathlib.Core.Bool.{true};
 ghost use lib.Seq.{sets};
 ghost use Rattle.rules.specs.Text.{wellFormed};
 ghost use Rattle.rules.specs.RunFile.{frameDigits, beatWords, takeLine, atHeader, atStart};
@@ -82,6 +82,7 @@ fn take_start(h: Header, line: &[u8], table: &mut [u16], out: &mut [u8; 69]) -> 
     }
 }
 
+// Room for the largest table: 16·25.
 fn table_of_zeros() -> [u16; 400]
     ensures { λ r. ⌜ 400 ≡ length r ⌝ }
 {
@@ -95,6 +96,7 @@ fn line_of_zeros() -> [u16; 2000]
     [0; 2000]
 }
 
+// Copies words to the start of a table.
 fn copy_words(words: &[u16], table: &mut [u16])
     requires { ⌜ length (now words) ≤ length (now table) ⌝ }
     ensures { λ _. ⌜ now (table .exit) ≡ sets (now (table .entry)) 0 (now (words .entry)) ⌝ }
@@ -158,6 +160,7 @@ fn take_beat(h: Header, beat: u16, line: &[u8], table: &mut [u16], out: &mut [u8
     }
 }
 
+// One line, of a table that is long enough for any rack.
 pub(crate) fn line_taken(run: Run, line: &[u8], table: &mut [u16], out: &mut [u8; 69]) -> Taken
     requires { ⌜ 400 ≤ length (now table) ⌝ }
     ensures { λ r. ⌜ Takes run (takenLine (standing run (now (table .entry))) (now (line .entry))) (now (table .entry)) (now (out .entry)) r (now (table .exit)) (now (out .exit)) ⌝ }

@@ -1,7 +1,6 @@
 -- `blockrun::run_input` is safe and ends: the measure is the number of turns that are left. Assumes nothing.
 use borrow.Author.Needs.{needs}
 use mathlib.Core.Path.{_≡_, sym, _∙_}
-use native.Mathlib.Omega.{arith}
 use lib.ListN.{length}
 use Rattle.blockrun.proofs.run_input.Statement.{statement}
 use Rattle.blockrun.proofs.run_input.Tie as tie

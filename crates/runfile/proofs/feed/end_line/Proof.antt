@@ -1,11 +1,8 @@
 -- `runfile::feed::end_line` meets its contract. Assumes nothing.
 use borrow.Author.Needs.{needs}
-use mathlib.Core.Path.{_≡_, sym, ap, _∙_}
-use Prim.Native.Nat.{ℕ}
-use native.Mathlib.Omega.{arith}
-use lib.ListN.{length, take}
-use lib.Seq.{sets, length-take-le}
-use Rattle.rules.specs.RunFile.{refusalLine}
+use mathlib.Core.Path.{sym}
+use lib.ListN.{take}
+use lib.Seq.{length-take-le}
 use Rattle.runfile.specs.Feeds.{ended}
 use Rattle.runfile.specs.Runs.{standing}
 use Rattle.runfile.proofs.Calls.{taken-not-0, accepted-sized, accepted-short, ends-refused, ends-accepted}

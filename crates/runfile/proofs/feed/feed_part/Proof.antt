@@ -1,6 +1,5 @@
 -- `runfile::feed::feed_part` meets its contract: the part is held, and at a line feed the line is at its end. Assumes nothing.
 use borrow.Author.Needs.{needs}
-use mathlib.Core.Path.{_≡_}
 use mathlib.Core.List.{_++_}
 use Prim.Native.Nat.{_-_}
 use native.Mathlib.Omega.{arith}

@@ -1,7 +1,7 @@
 -- `runfile::frame::frame_refusal` meets its contract: each return rewrites with the tests that led there. Assumes nothing.
 use borrow.Author.Needs.{needs}
 use borrow.Author.Tests.{eq-eqb, ne-eqb, not-false}
-use mathlib.Core.Path.{_≡_, sym, _∙_}
+use mathlib.Core.Path.{sym, _∙_}
 use native.Mathlib.Omega.{arith}
 use Rattle.text.proofs.Hexadecimal.{formed}
 use Rattle.runfile.proofs.frame.frame_refusal.Statement.{statement}

@@ -1,6 +1,6 @@
 -- `runfile::frame::start_refusal` meets its contract. Assumes nothing.
 use borrow.Author.Needs.{needs}
-use mathlib.Core.Path.{_≡_, _∙_}
+use mathlib.Core.Path.{_∙_}
 use native.Mathlib.Omega.{arith}
 use Rattle.rules.specs.RunFile.{startRefusal}
 use Rattle.runfile.specs.Headers.{said}

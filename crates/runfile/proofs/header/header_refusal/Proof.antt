@@ -1,7 +1,7 @@
 -- `runfile::header::header_refusal` meets its contract. Assumes nothing.
 use borrow.Author.Needs.{needs}
 use borrow.Author.Tests.{not-false}
-use mathlib.Core.Path.{_≡_, sym, _∙_}
+use mathlib.Core.Path.{sym, _∙_}
 use Rattle.rules.specs.RunFile.{headerRefusal}
 use Rattle.runfile.proofs.header.header_refusal.Statement.{statement}
 use Rattle.runfile.proofs.header.header_refusal.Tie as tie

@@ -1,7 +1,6 @@
 -- `runfile::header::tests_of` meets its contract: each return rewrites with the tests that led there. Assumes nothing.
 use borrow.Author.Needs.{needs}
 use mathlib.Core.Path.{_≡_, sym, _∙_}
-use Prim.Native.Nat.{ℕ}
 use Rattle.rules.specs.Refusals.{given}
 use Rattle.rules.specs.WholeBeat.{badSet}
 use Rattle.rules.proofs.Shapes.{counter-refused, counter-passed, counter-shape}

@@ -1,9 +1,9 @@
 -- `runfile::output::put_line` meets its contract: behind the beat stand the words of the cards passed. Assumes nothing.
 use borrow.Author.Needs.{needs}
-use mathlib.Core.Path.{_≡_, refl, sym, _∙_}
-use Prim.Native.Nat.{ℕ, _+_, _*_, _-_, _≤_}
+use mathlib.Core.Path.{_≡_, refl, _∙_}
+use Prim.Native.Nat.{_+_, _*_, _-_, _≤_}
 use native.Mathlib.Omega.{arith}
-use lib.ListN.{length, length-set}
+use lib.ListN.{length}
 use lib.Seq.{sets}
 use Rattle.rules.specs.Counting.{rows}
 use Rattle.text.proofs.Hexadecimal.{hex-length}

@@ -1,6 +1,6 @@
 -- `runfile::output::put_refusal` meets its contract: the line is stored part by part. Assumes nothing.
 use borrow.Author.Needs.{needs}
-use mathlib.Core.Path.{_≡_, sym, _∙_}
+use mathlib.Core.Path.{sym}
 use Rattle.runfile.proofs.Shown.{refusal-length, refusal-stored}
 use Rattle.runfile.proofs.output.put_refusal.Statement.{statement}
 use Rattle.runfile.proofs.output.put_refusal.Tie as tie

@@ -4,8 +4,6 @@ use mathlib.Core.Path.{_≡_, sym, _∙_}
 use Prim.Native.Nat.{_≤_}
 use native.Mathlib.Omega.{arith}
 use lib.ListN.{length, take}
-use lib.Seq.{length-take-le}
-use Rattle.rules.specs.RunFile.{beatWords}
 use Rattle.rules.specs.Text.{wordsAt}
 use Rattle.text.proofs.WordsOfText.{words-length}
 use Rattle.runfile.specs.Headers.{said}

@@ -5,7 +5,6 @@ use mathlib.Core.Bool.{true}
 use Prim.Native.Nat.{_+_, _≤_}
 use native.Mathlib.Omega.{arith}
 use lib.ListN.{length}
-use lib.Seq.{sets}
 use Rattle.rules.specs.Text.{wellFormed}
 use Rattle.rules.specs.RunFile.{frameDigits, startWords, beatWords, lastBeat, beatRefusal, outputLine, atBeat, takeLine}
 use Rattle.runfile.specs.declared.run.Run.the-variants.{AtBeat}
