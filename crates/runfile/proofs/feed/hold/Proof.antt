@@ -22,7 +22,7 @@ returns c =
     let part = take (a .end - a .from) rest in
     let size : length part ≡ a .end - a .from = length-take-le (a .end - a .from) rest (omega (arith, length-drop (a .from) (a .piece .now))) in
     part-holds (a .line .now) (a .held) (s .pre .0) part _ _
-    (omega (arith, start .ensures, count .ensures))
+    (rw (size, count .ensures, start .ensures))
     (k .keep .ensures ∙ rw (count .ensures, take-both (a .end - a .from) (longest - start .result) rest, start .ensures))
 
 pub hold-spec : {M : Type 1} → statement M
