@@ -1,8 +1,7 @@
-use level::column;
 use level::group;
 use level::group::Group;
-use level::pointer;
 use rules::Vote;
+use steps::pointer;
 ghost use mathlib.Core.Path.{_≡_};
 ghost use Prim.Native.Nat.{ℕ, _+_, _*_, _-_, _<_, _≤_};
 ghost use lib.ListN.{length, replicate};
@@ -19,8 +18,8 @@ fn leaf_word(recs: &[u16], g: Group) -> u16
     requires { ⌜ (Fits (length (now recs)) g) ⌝ }
     ensures { λ r. ⌜ r ≡ leafNext (g .c) (heardBy (now (recs .entry)) g) ⌝ }
 {
-    let word = column::said(recs, group::column(g, 0), 0);
-    let x = pointer::count_or_0(column::read_vote(g.c, word));
+    let word = columns::said(recs, group::column(g, 0), 0);
+    let x = pointer::count_or_0(columns::read_vote(g.c, word));
     ((x as u32 + 1) % g.c) as u16
 }
 
@@ -140,6 +139,6 @@ pub fn shown_count(n: u32, f: u32, c: u32, words: &[u16]) -> Shown
     let at = group::output_place(f);
     Shown {
         refusal: 0,
-        count: column::read_vote(c, words[at]),
+        count: columns::read_vote(c, words[at]),
     }
 }

@@ -1,5 +1,3 @@
-pub mod Sent
-pub mod Tallies
 pub mod Places
 pub mod Rows
 pub mod Standings

@@ -10,7 +10,7 @@ use Rattle.rules.specs.OneBeat.{mostFrequent, nextM}
 use Rattle.rules.proofs.Records.{eight-words, output-inside}
 use Rattle.rules.proofs.Halves.{half-few, half-ends, half-broken, half-modulus, half-words}
 use Rattle.level.specs.declared.group.Group.{Group}
-use Rattle.level.specs.Columns.{Within}
+use Rattle.columns.specs.Columns.{Within}
 use Rattle.level.specs.Groups.{Fits, Split, heardBy, columnOf, halfGroup, outputsOf}
 
 pub split-place : {size : ℕ} {g : Group} → Split size g → (j : ℕ) → j ≤ 8 → g .base + j < g .w

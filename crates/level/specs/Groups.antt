@@ -3,7 +3,7 @@ use mathlib.Core.List.{List}
 use Prim.Native.Nat.{ℕ, _+_, _*_, _≤_, _<_}
 use Rattle.rules.specs.Parameters.{mostBroken, mostModulus, recordWords}
 use Rattle.rules.specs.Groups.{heardFrom, heardIn, halfCards, halfFirst, halfBroken, halfModulus, outputPlace}
-use Rattle.level.specs.declared.column.Column.{Column}
+use Rattle.columns.specs.declared.Column.{Column}
 use Rattle.level.specs.declared.group.Group.{Group}
 
 -- what is heard of the group's cards

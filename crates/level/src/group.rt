@@ -1,4 +1,4 @@
-use crate::column::Column;
+use columns::Column;
 ghost use mathlib.Core.Path.{_≡_};
 ghost use Prim.Native.Nat.{ℕ, _+_, _*_, _<_, _≤_};
 ghost use Rattle.rules.specs.Groups.{halfModulus, outputPlace};

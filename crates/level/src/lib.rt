@@ -1,7 +1,4 @@
-pub mod column;
 pub mod group;
-pub mod pointer;
-pub mod steps;
 
 use group::Group;
 use params::Row;
@@ -16,7 +13,7 @@ ghost use Rattle.rules.specs.Groups.{halfModulus, halfOf, outputOf, wordOf, bit
 ghost use Rattle.rules.specs.OneBeat.{mostFrequent, cooldown, trusted, phase, nextVote, nextStanding};
 ghost use Rattle.params.specs.Answers.{rowRead};
 ghost use Rattle.level.specs.Groups.{Fits, Split, heardBy};
-ghost use Rattle.level.specs.Standings.{standing};
+ghost use Rattle.steps.specs.Standings.{standing};
 ghost use Rattle.level.specs.Levels.{levelRead, levelAfter, votedZero, votedOne, wordsOf};
 
 // What a card keeps of a split group: m0 m1 M0 M1 w0 w1 a b, as document 01 reads them.
@@ -104,7 +101,7 @@ fn word_at(recs: &[u16], g: Group, card: usize, j: usize) -> u16
     requires { ⌜ (Split (length (now recs)) g) × (card < g .n) × (j < 8) ⌝ }
     ensures { λ r. ⌜ r ≡ heardBy (now (recs .entry)) g card j ⌝ }
 {
-    column::said(recs, group::column(g, j), card)
+    columns::said(recs, group::column(g, j), card)
 }
 
 // The level that a card of the group keeps, from its eight words.
@@ -115,11 +112,11 @@ fn read_level(recs: &[u16], g: Group, card: usize, row: Row) -> Level
     Level {
         m0: word_at(recs, g, card, 0),
         m1: word_at(recs, g, card, 1),
-        vote0: column::read_vote(row.c0 as u32, word_at(recs, g, card, 2)),
-        vote1: column::read_vote(row.c1 as u32, word_at(recs, g, card, 3)),
+        vote0: columns::read_vote(row.c0 as u32, word_at(recs, g, card, 2)),
+        vote1: columns::read_vote(row.c1 as u32, word_at(recs, g, card, 3)),
         wait0: at_most(word_at(recs, g, card, 4), row.restart),
         wait1: at_most(word_at(recs, g, card, 5), row.restart),
-        a: column::read_vote(g.c, word_at(recs, g, card, 6)),
+        a: columns::read_vote(g.c, word_at(recs, g, card, 6)),
         b: word_at(recs, g, card, 7) == 1,
     }
 }
@@ -132,10 +129,10 @@ impl Level {
     {
         let vote0 = self.vote0;
         let vote1 = self.vote1;
-        let d0 = pointer::trusted_vote(self.wait0, vote0);
-        let d1 = pointer::trusted_vote(self.wait1, vote1);
+        let d0 = steps::pointer::trusted_vote(self.wait0, vote0);
+        let d1 = steps::pointer::trusted_vote(self.wait1, vote1);
         let half: usize = if card < g.n / 2 { 0 } else { 1 };
-        pointer::phase_of(half, g.f, row.turn, d0, d1)
+        steps::pointer::phase_of(half, g.f, row.turn, d0, d1)
     }
 }
 
@@ -145,7 +142,7 @@ fn common_output(recs: &[u16], half: Group) -> u16
     ensures { λ r. ⌜ r ≡ mostFrequent (half .c) (half .n) (λ (u : ℕ). outputOf (half .f) (half .c) (heardBy (now (recs .entry)) half u)) ⌝ }
 {
     let outputs = group::column(half, group::output_place(half.f));
-    column::most_frequent(recs, outputs, half.c as usize)
+    columns::most_frequent(recs, outputs, half.c as usize)
 }
 
 // Mi, by the m that the cards sent.
@@ -153,7 +150,7 @@ fn next_vote(recs: &[u16], g: Group, half: usize, m: u16) -> Vote
     requires { ⌜ (Split (length (now recs)) g) × (half < 2) × (m ≡ halfModulus half (g .f)) ⌝ }
     ensures { λ r. ⌜ r ≡ nextVote half (g .n) (g .f) (heardBy (now (recs .entry)) g) ⌝ }
 {
-    column::vote_of(recs, group::column(g, half), g.f as usize, m as usize)
+    columns::vote_of(recs, group::column(g, half), g.f as usize, m as usize)
 }
 
 // a and b, by the step that the old M and w pick.
@@ -179,10 +176,10 @@ pub fn next_level(recs: &[u16], g: Group, card: usize) -> Level
 {
     let row = params::row_of(g.f);
     let own = read_level(recs, g, card, row);
-    let stand = next_stand(recs, g, card, own, row);
     let vote0 = next_vote(recs, g, 0, row.c0);
     let vote1 = next_vote(recs, g, 1, row.c1);
     let voted = own.voted_zero(vote0, row).voted_one(vote1, row);
+    let stand = next_stand(recs, g, card, own, row);
     let a = stand.a;
     Level {
         m0: common_output(recs, group::half_zero(g, row.c0)),

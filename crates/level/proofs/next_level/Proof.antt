@@ -15,11 +15,12 @@ row c = let s = c .before .before in row-is (s .args .g .f) (c .row-of .result) 
 returns : tie.Need-returns
 unfolding levelAfter nextWait
 returns c =
-    let voted = c .before .before .before .before in
+    let stand = c .before .before .before .before in
+    let voted = stand .before in
     let votes = voted .before .before in
-    let stand = votes .before .before in
-    let r = row (stand .before .before) in
-    let s = stand .before .before .before .before in
+    let own = votes .before .before in
+    let r = row (own .before) in
+    let s = own .before .before .before in
     let recs = s .args .recs .now in
     let m0 = c .before .before .common-output .ensures ∙ half-common recs (s .args .g) (c .before .before .before .half-zero .result) 0 (c .before .before .before .half-zero .ensures) in
     let m1 = c .common-output2 .ensures ∙ half-common recs (s .args .g) (c .before .half-one .result) 1 (c .before .half-one .ensures) in
@@ -30,7 +31,7 @@ returns c =
       voted .before .voted-zero .ensures,
       votes .next-vote2 .ensures,
       votes .before .next-vote .ensures,
-      stand .before .read-level .ensures,
+      own .read-level .ensures,
       ap (λ (s : Standing). s .a) (stand .next-stand .ensures),
       ap (λ (s : Standing). s .b) (stand .next-stand .ensures),
       r .m0,
@@ -44,11 +45,13 @@ next-level-spec =
     (tie.spec
     (λ c κs. search needs)
     (λ c κs. search needs)
-    (λ c κs. search needs)
-    (λ c κs. (c .before .before .before .before .pre .0, omega arith, row (c .before .before) .m0))
-    (λ c κs. (c .before .before .before .before .before .pre .0, omega arith, row (c .before .before .before) .m1))
-    (λ c κs. omega (arith, row (c .before .before .before .before) .m0))
-    (λ c κs. omega (arith, row (c .before .before .before .before .before) .m1))
+    (λ c κs. (c .before .before .before .pre .0, omega arith, row (c .before) .m0))
+    (λ c κs. (c .before .before .before .before .pre .0, omega arith, row (c .before .before) .m1))
+    (λ c κs. omega (arith, row (c .before .before .before) .m0))
+    (λ c κs. omega (arith, row (c .before .before .before .before) .m1))
+    (λ c κs. let own = c .before .before .before .before in
+    let s = own .before .before .before in
+    (s .pre .0, s .pre .1, own .before .row-of .ensures, own .read-level .ensures))
     (λ c κs. let r = c .before .before .before .before .before .before in
     let s = r .before .before in
     (s .pre .0 .some, split-narrow (s .pre .0), row r .m0))

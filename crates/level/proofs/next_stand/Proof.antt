@@ -7,7 +7,7 @@ use mathlib.Core.Path.{_∙_}
 use Rattle.rules.specs.Parameters.{turn}
 use Rattle.rules.specs.OneBeat.{phase, keptD}
 use Rattle.level.specs.Groups.{heardBy}
-use Rattle.level.specs.Standings.{standing}
+use Rattle.steps.specs.Standings.{standing}
 use Rattle.level.proofs.Standings.{stand-is}
 use Rattle.level.proofs.Places.{split-place, column-within}
 use Rattle.level.proofs.Rows.{RowOf, row-is}

@@ -1,0 +1,102 @@
+-- `columns::smallest_supported` meets its contract: of what the cards gone through sent, nothing below the best so far
+-- is supported. Assumes nothing.
+use borrow.Author.Needs.{needs}
+use mathlib.Core.Path.{_≡_, refl, sym, ap, _∙_}
+use mathlib.Core.Logic.{⊎-elim}
+use Prim.Native.Nat.{ℕ, _+_, _-_, _≤_, _<_}
+use native.Mathlib.Omega.{arith}
+use borrow.Author.Count.{below-more}
+use Rattle.rules.specs.declared.Vote.{Vote}
+use Rattle.rules.specs.declared.Vote.the-variants.{Count, None}
+use Rattle.rules.specs.Groups.{readVote}
+use Rattle.rules.specs.OneBeat.{sentBy}
+use Rattle.rules.proofs.Votes.{read-is}
+use Rattle.columns.specs.Columns.{votesIn, wordIn}
+use Rattle.columns.proofs.Sent.{supported-found, supported-none}
+use Rattle.columns.proofs.smallest_supported.Statement.{statement}
+use Rattle.columns.proofs.smallest_supported.Tie as tie
+
+abbrev Inv-loop : tie.InvT-loop
+Inv-loop recs col f m n best₀ u₀ best u =
+    (u ≤ col .n) × (best ≤ m) × (best < m → f < sentBy (col .n) (votesIn m recs col) (Count best))
+    × ((v : ℕ) → v < u → wordIn recs col v < best → sentBy (col .n) (votesIn m recs col) (Count (wordIn recs col v)) ≤ f)
+
+abbrev μ-loop : tie.MeasureT-loop
+μ-loop recs col f m n best₀ u₀ best u = col .n - u
+
+loop-again : tie.Need-loop-again Inv-loop μ-loop
+loop-again c =
+    let l = c .before .before .before in
+    let a = l .before .before .args in
+    let votes = votesIn (a .c) (a .recs .now) (a .col) in
+    let word = wordIn (a .recs .now) (a .col) in
+    let u = l .loop .u in
+    let e : c .before .said .result ≡ word u = c .before .said .ensures in
+    ⊎-elim
+    (λ w. rw (w .3) (
+      omega arith,
+      omega arith,
+      λ k. omega (arith, w .1 .ensures .0, w .2 .taken),
+      below-more (λ (v : ℕ). word v < c .before .said .result → sentBy (a .col .n) votes (Count (word v)) ≤ a .f) u
+          (λ v lv k. l .loop .inv .3 v lv (omega arith)) (λ k. absurd (omega arith)),
+    ))
+    (⊎-elim
+    (λ w. rw (w .3) (
+      omega arith,
+      l .loop .inv .1,
+      l .loop .inv .2,
+      below-more (λ (v : ℕ). word v < l .loop .best → sentBy (a .col .n) votes (Count (word v)) ≤ a .f) u
+          (l .loop .inv .3) (λ k. rw (← e) (omega (arith, w .1 .ensures .0, w .2 .left))),
+    ))
+    (λ w. rw (w .1) (
+      omega arith,
+      l .loop .inv .1,
+      l .loop .inv .2,
+      below-more (λ (v : ℕ). word v < l .loop .best → sentBy (a .col .n) votes (Count (word v)) ≤ a .f) u
+          (l .loop .inv .3) (λ k. absurd (omega (arith, w .0 .left))),
+    )))
+    (c .if1 .came)
+
+-- the votes of the column
+abbrev votes : tie.After-loop Inv-loop μ-loop → ℕ → Vote
+votes c = votesIn (c .before .before .before .args .c) (c .before .before .before .args .recs .now) (c .before .before .before .args .col)
+
+-- what was sent and lies below the best is not supported
+passed : (c : tie.After-loop Inv-loop μ-loop)
+    → let a = c .before .before .before .args in
+    (v x : ℕ) → v < a .col .n → votes c v ≡ Count x → x < c .before .loop .best → sentBy (a .col .n) (votes c) (Count x) ≤ a .f
+passed c v x lv e l =
+    let a = c .before .before .before .args in
+    let s : wordIn (a .recs .now) (a .col) v ≡ x = read-is (a .c) (wordIn (a .recs .now) (a .col) v) x e .0 in
+    rw (← s) (c .before .loop .inv .3 v (omega arith) (omega arith))
+
+found : tie.Need-returns Inv-loop μ-loop
+found c =
+    let a = c .before .before .before .before .args in
+    sym
+    (supported-found (votesIn (a .c) (a .recs .now) (a .col)) (a .col .n) (a .f) (a .c) (c .before .before .loop .best) (c .if3 .taken)
+    (c .before .before .loop .inv .2 (c .if3 .taken)) (passed (c .before)))
+
+none : tie.Need-returns-2 Inv-loop μ-loop
+none c =
+    let a = c .before .before .before .before .args in
+    sym
+    (supported-none (votesIn (a .c) (a .recs .now) (a .col)) (a .col .n) (a .f) (a .c)
+    (λ v x lv e l. passed (c .before) v x lv e (omega arith)))
+
+pub smallest-supported-spec : {M : Type 1} → statement M
+smallest-supported-spec =
+    tie.close
+    (tie.spec
+    Inv-loop
+    μ-loop
+    (λ c. (omega arith, omega arith, λ l. absurd (omega arith), λ v l. absurd (omega arith)))
+    (λ c κs. search needs)
+    (λ c. search needs)
+    (λ c κs. search needs)
+    (λ c. omega arith)
+    (λ c. omega arith)
+    loop-again
+    (λ c. omega arith)
+    found
+    none)

@@ -1,0 +1,103 @@
+-- `columns::vote_of` meets its contract: the tally of the cards gone through, in which nothing has had enough votes.
+-- Assumes nothing.
+use borrow.Author.Needs.{needs}
+use mathlib.Core.Path.{_≡_, refl, sym, ap, _∙_}
+use mathlib.Core.Logic.{⊎-elim}
+use Prim.Native.Nat.{ℕ, _+_, _-_, _≤_, _<_}
+use native.Mathlib.Omega.{arith}
+use lib.ListN.{length, getD, set, length-set}
+use Rattle.rules.specs.declared.Vote.{Vote}
+use Rattle.rules.specs.declared.Vote.the-variants.{Count, None}
+use Rattle.rules.specs.Groups.{readVote}
+use Rattle.rules.specs.OneBeat.{sentBy}
+use Rattle.rules.proofs.Votes.{read-below, read-above}
+use Rattle.columns.specs.Columns.{votesIn, wordIn}
+use Rattle.columns.proofs.Sent.{sent-le, sent-yes, sent-zero, vote-found, vote-none, still-short, short-still}
+use Rattle.columns.proofs.Tallies.{Tally, tally-start, tally-more, tally-same}
+use Rattle.columns.proofs.vote_of.Statement.{statement}
+use Rattle.columns.proofs.vote_of.Tie as tie
+
+abbrev Inv-loop : tie.InvT-loop
+Inv-loop recs col f m n tally₀ u₀ tally u =
+    (u ≤ col .n) × (length tally ≡ 128) × (Tally (votesIn m recs col) m tally u)
+    × ((j : ℕ) → j < m → sentBy u (votesIn m recs col) (Count j) + f < col .n)
+
+abbrev μ-loop : tie.MeasureT-loop
+μ-loop recs col f m n tally₀ u₀ tally u = col .n - u
+
+-- the votes of the column
+abbrev votes : tie.At-loop Inv-loop μ-loop → ℕ → Vote
+votes l = votesIn (l .before .before .args .m) (l .before .before .args .recs .now) (l .before .before .args .col)
+
+-- where x is sent once more: its tally is small, and is how often it was sent
+more : (c : tie.Then1 Inv-loop μ-loop)
+    → let l = c .before .before .before in
+    let x = c .before .said .result in
+    let again = getD (l .loop .tally) x 0 + 1 in
+    (again ≤ 256) × (votes l (l .loop .u) ≡ Count x) × (sentBy (l .loop .u + 1) (votes l) (Count x) ≡ again)
+more c =
+    let l = c .before .before .before in
+    let m = l .before .before .args .m in
+    let x = c .before .said .result in
+    let z : votes l (l .loop .u) ≡ Count x = ap (readVote m) (sym (c .before .said .ensures)) ∙ read-below m x (c .if1 .taken) in
+    let t = l .loop .inv .2 .counts x (c .if1 .taken) in
+    (omega (arith, sent-le (votes l) (l .loop .u) (Count x)), z, sent-yes (votes l) (l .loop .u) (Count x) z ∙ ap (λ (k : ℕ). k + 1) (sym t))
+
+found : tie.Need-returns Inv-loop μ-loop
+found c =
+    let l = c .before .before .before .before in
+    let a = l .before .before .args in
+    let v = votesIn (a .m) (a .recs .now) (a .col) in
+    let x = c .before .before .said .result in
+    sym (vote-found v (a .col .n) (a .f) (a .m) (l .loop .u + 1) x (omega arith) (omega arith) (omega arith) (omega (arith, more (c .before) .2)))
+
+loop-again : tie.Need-loop-again Inv-loop μ-loop
+loop-again c =
+    let l = c .before .before .before in
+    let a = l .before .before .args in
+    let v = votesIn (a .m) (a .recs .now) (a .col) in
+    let u = l .loop .u in
+    let x = c .before .said .result in
+    ⊎-elim
+    (λ w. let r = more (record { before = c .before; if1 = w .0 }) in
+    rw (w .2) (
+      omega arith,
+      simp length-set (l .loop .inv .1),
+      tally-more v (a .m) (l .loop .tally) u x (omega arith) (r .1) (w .0 .taken) (l .loop .inv .2),
+      still-short v (a .col .n) (a .f) (a .m) u x (r .1) (rw (r .2) (w .1 .left)) (l .loop .inv .3),
+    ))
+    (λ w. let z : v u ≡ None = ap (readVote (a .m)) (sym (c .before .said .ensures)) ∙ read-above (a .m) x (w .0 .left) in
+    rw (w .1)
+    (omega arith, l .loop .inv .1, tally-same v (a .m) (l .loop .tally) u z (l .loop .inv .2), short-still v (a .col .n) (a .f) (a .m) u z (l .loop .inv .3)))
+    (c .if1 .came)
+
+returns : tie.Need-returns-2 Inv-loop μ-loop
+returns c =
+    let a = c .before .before .before .args in
+    let e : c .before .loop .u ≡ a .col .n = omega arith in
+    sym (vote-none (votesIn (a .m) (a .recs .now) (a .col)) (a .col .n) (a .f) (a .m) (rw e at (c .before .loop .inv .3)))
+
+pub vote-of-spec : {M : Type 1} → statement M
+vote-of-spec =
+    tie.close
+    (tie.spec
+    Inv-loop
+    μ-loop
+    (λ c. let a = c .before .args in
+    let v = votesIn (a .m) (a .recs .now) (a .col) in
+    (omega arith, refl, tally-start v (a .m) 128 (omega arith), λ j l. omega (arith, sent-zero v (Count j))))
+    (λ c κs. search needs)
+    (λ c. search needs)
+    (λ c. omega arith)
+    (λ c. let l = c .before .before .before in
+    let a = l .before .before .args in
+    omega (arith, l .loop .inv .2 .counts (c .before .said .result) (c .if1 .taken), sent-le (votesIn (a .m) (a .recs .now) (a .col)) (l .loop .u) (Count (c .before .said .result))))
+    (λ c. omega arith)
+    (λ c. omega (arith, more c .0))
+    (λ c. omega (arith, more c .0))
+    (λ c. search needs)
+    found
+    (λ c. omega arith)
+    (λ c. omega arith)
+    loop-again
+    returns)

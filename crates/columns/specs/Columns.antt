@@ -1,0 +1,25 @@
+-- A column of a table of records: the same word of some cards that stand side by side. Assumes nothing.
+use Prim.Native.Nat.{ℕ, _+_, _*_, _≤_, _<_, min}
+use mathlib.Core.Bool.{cond}
+use mathlib.Core.List.{List}
+use lib.Dec.{ltb}
+use Rattle.rules.specs.declared.Vote.{Vote}
+use Rattle.rules.specs.Groups.{heardIn, readVote}
+use Rattle.columns.specs.declared.Column.{Column}
+
+-- the column lies within a table of so many words
+pub record Within (size : ℕ) (col : Column) : Type 0 where
+  pub table : col .cards * col .w ≤ size
+  pub rows : col .first + col .n ≤ col .cards
+  pub place : col .at < col .w
+  pub few : col .n < 256
+
+abbrev pub wordIn : List ℕ → Column → ℕ → ℕ
+wordIn recs col u = heardIn (col .w) recs (col .first + u) (col .at)
+
+abbrev pub votesIn : ℕ → List ℕ → Column → ℕ → Vote
+votesIn m recs col u = readVote m (wordIn recs col u)
+
+-- the more frequent of two values, the smaller on a tie
+unfoldable pub leader : ℕ → ℕ → ℕ → ℕ → ℕ
+leader best most x t = cond (ltb most t) x (cond (ltb t most) best (min x best))

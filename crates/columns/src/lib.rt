@@ -1,0 +1,149 @@
+use rules::Vote;
+ghost use mathlib.Core.Path.{_≡_};
+ghost use mathlib.Core.Bool.{Bool};
+ghost use Prim.Native.Nat.{ℕ, _+_, _*_, _<_, _≤_};
+ghost use lib.ListN.{length};
+ghost use Rattle.rules.specs.Counting.{same};
+ghost use Rattle.rules.specs.Groups.{readVote};
+ghost use Rattle.rules.specs.OneBeat.{sentBy, mostFrequent, vote, supported};
+ghost use Rattle.columns.specs.Columns.{Within, wordIn, votesIn, leader};
+
+// The word `at` of each of n cards, from the card `first` on, in a table of `cards` records of w words.
+pub struct Column {
+    pub cards: usize,
+    pub w: usize,
+    pub first: usize,
+    pub n: usize,
+    pub at: usize,
+}
+
+// As many as the largest modulus of a half, and more.
+const TALLY: usize = 128;
+
+// The word of the column's card u.
+pub fn said(recs: &[u16], col: Column, u: usize) -> u16
+    requires { ⌜ (Within (length (now recs)) col) × (u < col .n) ⌝ }
+    ensures { λ r. ⌜ r ≡ wordIn (now (recs .entry)) col u ⌝ }
+{
+    let w = col.w;
+    let row = col.first + u;
+    recs[row * w + col.at]
+}
+
+// "a output or M at or above its modulus is none"
+pub fn read_vote(m: u32, word: u16) -> Vote
+    ensures { λ r. ⌜ r ≡ readVote m word ⌝ }
+{
+    if (word as u32) < m {
+        Vote::Count(word)
+    } else {
+        Vote::None
+    }
+}
+
+// Are two votes the same? None is the same as none.
+fn alike(x: Vote, y: Vote) -> bool
+    ensures { λ r. ⌜ r ≡ same x y ⌝ }
+{
+    match x {
+        Vote::Count(i) => match y {
+            Vote::Count(j) => i == j,
+            Vote::None => false,
+        },
+        Vote::None => match y {
+            Vote::Count(_) => false,
+            Vote::None => true,
+        },
+    }
+}
+
+// How many cards of the column sent y.
+pub fn sent_by(recs: &[u16], col: Column, m: u32, y: Vote) -> usize
+    requires { ⌜ Within (length (now recs)) col ⌝ }
+    ensures { λ r. ⌜ (r ≡ sentBy (col .n) (votesIn m (now (recs .entry)) col) y) × (r ≤ col .n) ⌝ }
+{
+    let n = col.n;
+    let mut k: usize = 0;
+    for u in 0..n {
+        if alike(read_vote(m, said(recs, col, u)), y) {
+            k += 1;
+        }
+    }
+    k
+}
+
+// Which of two values leads, x that was sent t times or `best` that was sent `most` times: the more frequent, the smaller on
+// a tie.
+fn lead(best: usize, most: u8, x: usize, t: u8) -> usize
+    ensures { λ r. ⌜ r ≡ leader best most x t ⌝ }
+{
+    if most < t {
+        return x;
+    }
+    if t < most {
+        return best;
+    }
+    if x < best { x } else { best }
+}
+
+// "the most frequent output", with a tally as long as the modulus.
+pub fn most_frequent(recs: &[u16], col: Column, m: usize) -> u16
+    requires { ⌜ (Within (length (now recs)) col) × (0 < m) × (m ≤ 128) ⌝ }
+    ensures { λ r. ⌜ r ≡ mostFrequent m (col .n) (votesIn m (now (recs .entry)) col) ⌝ }
+{
+    let n = col.n;
+    let mut tally = [0u8; TALLY];
+    let mut best: usize = 0;
+    for u in 0..n {
+        let x = said(recs, col, u) as usize;
+        if x < m {
+            let t = tally[x] + 1;
+            tally[x] = t;
+            best = lead(best, tally[best], x, t);
+        }
+    }
+    best as u16
+}
+
+// "the value of mi sent by at least n-f cards of the group, else none"
+pub fn vote_of(recs: &[u16], col: Column, f: usize, m: usize) -> Vote
+    requires { ⌜ (Within (length (now recs)) col) × (3 * f < col .n) × (m ≤ 128) ⌝ }
+    ensures { λ r. ⌜ r ≡ vote (col .n) f m (votesIn m (now (recs .entry)) col) ⌝ }
+{
+    let n = col.n;
+    let mut tally = [0u8; TALLY];
+    for u in 0..n {
+        let x = said(recs, col, u) as usize;
+        if x < m {
+            let t = tally[x] + 1;
+            tally[x] = t;
+            if n <= t as usize + f {
+                return Vote::Count(x as u16);
+            }
+        }
+    }
+    Vote::None
+}
+
+// "the smallest count heard more than f times, or none"
+pub fn smallest_supported(recs: &[u16], col: Column, f: usize, c: u32) -> Vote
+    requires { ⌜ (Within (length (now recs)) col) × (c ≤ 65535) ⌝ }
+    ensures { λ r. ⌜ r ≡ supported (col .n) f c (votesIn c (now (recs .entry)) col) ⌝ }
+{
+    let n = col.n;
+    let mut best = c;
+    for u in 0..n {
+        let word = said(recs, col, u);
+        let x = word as u32;
+        if x < best {
+            if f < sent_by(recs, col, c, Vote::Count(word)) {
+                best = x;
+            }
+        }
+    }
+    if best < c {
+        Vote::Count(best as u16)
+    } else {
+        Vote::None
+    }
+}

@@ -1,9 +1,0 @@
--- `level::column::read_vote` meets its contract. Assumes nothing.
-use mathlib.Core.Path.{sym}
-use Rattle.rules.proofs.Votes.{read-below, read-above}
-use Rattle.level.proofs.column.read_vote.Statement.{statement}
-use Rattle.level.proofs.column.read_vote.Tie as tie
-
-pub read-vote-spec : {M : Type 1} → statement M
-read-vote-spec =
-    tie.close (tie.spec (λ c. sym (read-below _ _ (c .if1 .taken))) (λ c. sym (read-above _ _ (c .if1 .left))))

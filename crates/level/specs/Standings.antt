@@ -1,6 +1,0 @@
--- The two words that the three steps change, as the rules have them. Assumes nothing.
-use Rattle.rules.specs.OneBeat.{Standing}
-use Rattle.level.specs.declared.steps.Stand.{Stand}
-
-abbrev pub standing : Stand → Standing
-standing s = record { a = s .a; b = s .b }

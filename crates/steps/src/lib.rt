@@ -1,0 +1,108 @@
+pub mod pointer; // pointer.rt: which beat of its turn a card follows
+
+use columns::Column;
+use rules::Vote;
+ghost use mathlib.Core.Path.{_≡_};
+ghost use mathlib.Core.Bool.{Bool};
+ghost use Prim.Native.Nat.{ℕ, _+_, _*_, _/_, _<_, _≤_};
+ghost use lib.ListN.{length};
+ghost use Rattle.rules.specs.OneBeat.{enough, sentBy, obeyed, step0, step1, step2, gained, threeSteps};
+ghost use Rattle.columns.specs.Columns.{Within, votesIn};
+ghost use Rattle.steps.specs.Standings.{standing};
+
+// The two words that the three steps change.
+pub struct Stand {
+    pub a: Vote,
+    pub b: bool,
+}
+
+// Did at least n-f cards of the column send y?
+fn sent_enough(recs: &[u16], col: Column, f: u32, c: u32, y: Vote) -> bool
+    requires { ⌜ (Within (length (now recs)) col) × (f < 256) ⌝ }
+    ensures { λ r. ⌜ r ≡ enough (col .n) f (sentBy (col .n) (votesIn c (now (recs .entry)) col) y) ⌝ }
+{
+    col.n <= columns::sent_by(recs, col, c, y) + f as usize
+}
+
+// "Step 0: if fewer than n-f cards sent this card's a, a becomes none. b stays."
+fn step_0(recs: &[u16], col: Column, f: u32, c: u32, s: Stand) -> Stand
+    requires { ⌜ (Within (length (now recs)) col) × (f < 256) ⌝ }
+    ensures { λ r. ⌜ standing r ≡ step0 (col .n) f (votesIn c (now (recs .entry)) col) (standing s) ⌝ }
+{
+    let a = s.a;
+    if sent_enough(recs, col, f, c, a) {
+        s
+    } else {
+        Stand {
+            a: Vote::None,
+            b: s.b,
+        }
+    }
+}
+
+// "Step 1: b becomes 1 if at least n-f cards sent this card's old a, else 0 .. a becomes the smallest count heard more than f
+// times, or none."
+fn step_1(recs: &[u16], col: Column, f: u32, c: u32, s: Stand) -> Stand
+    requires { ⌜ (Within (length (now recs)) col) × (f < 256) × (c ≤ 65535) ⌝ }
+    ensures { λ r. ⌜ standing r ≡ step1 (col .n) f c (votesIn c (now (recs .entry)) col) (standing s) ⌝ }
+{
+    let a = s.a;
+    let b = sent_enough(recs, col, f, c, a);
+    Stand {
+        a: columns::smallest_supported(recs, col, f as usize, c),
+        b: b,
+    }
+}
+
+// "if a is none or b = 0, a becomes the king's a, or 0 if the king has none"
+fn obey(a: Vote, b: bool, king: Vote) -> Vote
+    ensures { λ r. ⌜ r ≡ obeyed a b king ⌝ }
+{
+    match a {
+        Vote::Count(x) => {
+            if b {
+                Vote::Count(x)
+            } else {
+                Vote::Count(pointer::count_or_0(king))
+            }
+        }
+        Vote::None => Vote::Count(pointer::count_or_0(king)),
+    }
+}
+
+// "Step 2: .. b becomes 1."
+fn step_2(king: Vote, s: Stand) -> Stand
+    ensures { λ r. ⌜ standing r ≡ step2 king (standing s) ⌝ }
+{
+    let a = s.a;
+    Stand {
+        a: obey(a, s.b, king),
+        b: true,
+    }
+}
+
+// "d modulo 3 picks the step; the king is card d/3 (rounded down) of the group"
+pub fn three_steps(recs: &[u16], col: Column, f: u32, c: u32, d: u16, s: Stand) -> Stand
+    requires { ⌜ (Within (length (now recs)) col) × (f < 256) × (c ≤ 65535) × (d / 3 < col .n) ⌝ }
+    ensures { λ r. ⌜ standing r ≡ threeSteps (col .n) f c (votesIn c (now (recs .entry)) col) d (standing s) ⌝ }
+{
+    if d % 3 == 0 {
+        return step_0(recs, col, f, c, s);
+    }
+    if d % 3 == 1 {
+        return step_1(recs, col, f, c, s);
+    }
+    let king = columns::read_vote(c, columns::said(recs, col, (d / 3) as usize));
+    step_2(king, s)
+}
+
+// "After each step a count gains 1 modulo c; none stays."
+pub fn gain(c: u32, a: Vote) -> Vote
+    requires { ⌜ (0 < c) × (c ≤ 65535) ⌝ }
+    ensures { λ r. ⌜ r ≡ gained c a ⌝ }
+{
+    match a {
+        Vote::Count(x) => Vote::Count(((x as u32 + 1) % c) as u16),
+        Vote::None => Vote::None,
+    }
+}
