@@ -1,3 +1,2 @@
-pub mod Filling
 pub mod Accepted
 pub mod Determined

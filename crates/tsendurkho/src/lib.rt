@@ -1,6 +1,6 @@
 // What C and Rust reach: one card's step and the lag, "on numbers and byte slices, two bytes a word, low byte first".
 ghost use mathlib.Core.Path.{_≡_};
-ghost use Prim.Native.Nat.{_+_, _*_, _/_, _%_};
+ghost use Prim.Native.Nat.{_*_};
 ghost use lib.ListN.{length};
 ghost use Rattle.rules.specs.Counting.{tabulate};
 ghost use Rattle.rules.specs.Bytes.{wordAt, bytesOf};
@@ -11,48 +11,6 @@ ghost use Rattle.rules.specs.Calls.{stepOut, stepBytesOut, lagAnswer};
 const MOST_WORDS: usize = 25;
 
 const MOST_TABLE: usize = 400;
-
-fn joined(low: u8, high: u8) -> u16
-    ensures { λ r. ⌜ r ≡ low + 256 * high ⌝ }
-{
-    low as u16 + 256 * (high as u16)
-}
-
-fn low_byte(word: u16) -> u8
-    ensures { λ r. ⌜ r ≡ word % 256 ⌝ }
-{
-    (word % 256) as u8
-}
-
-fn high_byte(word: u16) -> u8
-    ensures { λ r. ⌜ r ≡ word / 256 ⌝ }
-{
-    (word / 256) as u8
-}
-
-// Reads the words of some bytes.
-fn decode(bytes: &[u8], words: &mut [u16])
-    requires { ⌜ length (now bytes) ≡ 2 * length (now words) ⌝ }
-    ensures { λ _. ⌜ now (words .exit) ≡ tabulate (length (now (words .entry))) (wordAt (now (bytes .entry))) ⌝ }
-{
-    let size = words.len();
-    for i in 0..size {
-        words[i] = joined(bytes[2 * i], bytes[2 * i + 1]);
-    }
-}
-
-// Writes some words as bytes.
-fn encode(words: &[u16], bytes: &mut [u8])
-    requires { ⌜ length (now bytes) ≡ 2 * length (now words) ⌝ }
-    ensures { λ _. ⌜ now (bytes .exit) ≡ bytesOf (now (words .entry)) ⌝ }
-{
-    let size = words.len();
-    for i in 0..size {
-        let word = words[i];
-        bytes[2 * i] = low_byte(word);
-        bytes[2 * i + 1] = high_byte(word);
-    }
-}
 
 // Refusals 1, 2, 3, 4, 5, 6; "an odd byte count is a wrong length".
 fn step_refusal(n: u32, f: u32, c: u32, card: u32, records: usize, out: usize) -> u32
@@ -89,9 +47,9 @@ fn step_words(
     requires { ⌜ (length (now records) ≡ 2 * length (now heard)) × (length (now out) ≡ 2 * length (now next)) ⌝ }
     ensures { λ _. ⌜ now (out .exit) ≡ bytesOf (stepOut n f c card (tabulate (length (now (heard .entry))) (wordAt (now (records .entry)))) (now (next .entry))) ⌝ }
 {
-    decode(records, heard);
+    wordbytes::decode(records, heard);
     card::step(n, f, c, card, heard, next);
-    encode(next, out);
+    wordbytes::encode(next, out);
 }
 
 // One card's step: the card's next record, from the n records that it hears.

@@ -1,4 +1,4 @@
--- `tsendurkho::decode` meets its contract: the words passed stand in front. Assumes nothing.
+-- `wordbytes::decode` meets its contract: the words passed stand in front. Assumes nothing.
 use borrow.Author.Needs.{needs}
 use mathlib.Core.Path.{_≡_, refl, _∙_}
 use Prim.Native.Nat.{_-_, _≤_}
@@ -7,9 +7,9 @@ use lib.ListN.{length, length-set}
 use Rattle.rules.specs.Counting.{rows, tabulate}
 use Rattle.rules.specs.Bytes.{wordAt}
 use Rattle.rules.proofs.Lists.{tabulate-length}
-use Rattle.tsendurkho.proofs.Filling.{filled, filled-all, word-more}
-use Rattle.tsendurkho.proofs.decode.Statement.{statement}
-use Rattle.tsendurkho.proofs.decode.Tie as tie
+use Rattle.wordbytes.proofs.Filling.{filled, filled-all, word-more}
+use Rattle.wordbytes.proofs.decode.Statement.{statement}
+use Rattle.wordbytes.proofs.decode.Tie as tie
 
 abbrev Inv-loop : tie.InvT-loop
 Inv-loop bytes words₀ size i₀ words i =

@@ -1,4 +1,4 @@
--- `tsendurkho::encode` meets its contract: the bytes of the words passed stand in front. Assumes nothing.
+-- `wordbytes::encode` meets its contract: the bytes of the words passed stand in front. Assumes nothing.
 use borrow.Author.Needs.{needs}
 use mathlib.Core.Path.{_≡_, refl, _∙_}
 use mathlib.Core.List.{List, [], _∷_}
@@ -8,9 +8,9 @@ use lib.ListN.{length, getD, length-set}
 use Rattle.rules.specs.Counting.{rows}
 use Rattle.rules.specs.Bytes.{bytesOf}
 use Rattle.rules.proofs.Lists.{rows-length}
-use Rattle.tsendurkho.proofs.Filling.{filled, filled-all, pair-more}
-use Rattle.tsendurkho.proofs.encode.Statement.{statement}
-use Rattle.tsendurkho.proofs.encode.Tie as tie
+use Rattle.wordbytes.proofs.Filling.{filled, filled-all, pair-more}
+use Rattle.wordbytes.proofs.encode.Statement.{statement}
+use Rattle.wordbytes.proofs.encode.Tie as tie
 
 abbrev pairOf : List ℕ → ℕ → List ℕ
 pairOf words i = getD words i 0 % 256 ∷ getD words i 0 / 256 ∷ []
