@@ -83,15 +83,11 @@ fn step_refusal(n: u32, f: u32, c: u32, card: u32, records: usize, out: usize) -
     0
 }
 
-// One card's step: the card's next record, from the n records that it hears.
-pub fn step(n: u32, f: u32, c: u32, card: u32, records: &[u16], out: &mut [u16]) -> u32
-    ensures { λ r. ⌜ (r ≡ stepRefusal n f c card (length (now (records .entry))) (length (now (out .entry)))) × (now (out .exit) ≡ stepOut n f c card (now (records .entry)) (now (out .entry))) ⌝ }
+// The card's next record, from the n records that it hears, into a buffer of zeros: for a step that is not refused.
+pub fn put_next(n: u32, f: u32, c: u32, card: u32, records: &[u16], out: &mut [u16])
+    requires { ⌜ (stepRefusal n f c card (length (now records)) (length (now out)) ≡ 0) × (now out ≡ replicate (length (now out)) 0) ⌝ }
+    ensures { λ _. ⌜ now (out .exit) ≡ stepOut n f c card (now (records .entry)) (now (out .entry)) ⌝ }
 {
-    let refusal = step_refusal(n, f, c, card, records.len(), out.len());
-    if refusal != 0 {
-        return refusal;
-    }
-    clear(out);
     let whole = Group {
         cards: n as usize,
         w: params::record_words(f) as usize,
@@ -102,6 +98,18 @@ pub fn step(n: u32, f: u32, c: u32, card: u32, records: &[u16], out: &mut [u16])
         c: c,
     };
     step_group(records, whole, card as usize, out);
+}
+
+// One card's step.
+pub fn step(n: u32, f: u32, c: u32, card: u32, records: &[u16], out: &mut [u16]) -> u32
+    ensures { λ r. ⌜ (r ≡ stepRefusal n f c card (length (now (records .entry))) (length (now (out .entry)))) × (now (out .exit) ≡ stepOut n f c card (now (records .entry)) (now (out .entry))) ⌝ }
+{
+    let refusal = step_refusal(n, f, c, card, records.len(), out.len());
+    if refusal != 0 {
+        return refusal;
+    }
+    clear(out);
+    put_next(n, f, c, card, records, out);
     0
 }
 

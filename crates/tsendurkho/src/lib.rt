@@ -1,7 +1,7 @@
 // What C and Rust reach: one card's step and the lag, "on numbers and byte slices, two bytes a word, low byte first".
 ghost use mathlib.Core.Path.{_≡_};
 ghost use Prim.Native.Nat.{_*_};
-ghost use lib.ListN.{length};
+ghost use lib.ListN.{length, replicate};
 ghost use Rattle.rules.specs.Counting.{tabulate};
 ghost use Rattle.rules.specs.Bytes.{wordAt, bytesOf};
 ghost use Rattle.rules.specs.Refusals.{stepRefusal, stepBytesRefusal, lagRefusal};
@@ -33,7 +33,7 @@ fn step_refusal(n: u32, f: u32, c: u32, card: u32, records: usize, out: usize) -
     0
 }
 
-// The step by way of words: those of the records heard, and those of the next record.
+// The step by way of words, where it is not refused: those of the records heard, and those of the next record.
 fn step_words(
     n: u32,
     f: u32,
@@ -44,11 +44,11 @@ fn step_words(
     next: &mut [u16],
     out: &mut [u8],
 )
-    requires { ⌜ (length (now records) ≡ 2 * length (now heard)) × (length (now out) ≡ 2 * length (now next)) ⌝ }
+    requires { ⌜ (length (now records) ≡ 2 * length (now heard)) × (length (now out) ≡ 2 * length (now next)) × (stepRefusal n f c card (length (now heard)) (length (now next)) ≡ 0) × (now next ≡ replicate (length (now next)) 0) ⌝ }
     ensures { λ _. ⌜ now (out .exit) ≡ bytesOf (stepOut n f c card (tabulate (length (now (heard .entry))) (wordAt (now (records .entry)))) (now (next .entry))) ⌝ }
 {
     wordbytes::decode(records, heard);
-    card::step(n, f, c, card, heard, next);
+    card::put_next(n, f, c, card, heard, next);
     wordbytes::encode(next, out);
 }
 

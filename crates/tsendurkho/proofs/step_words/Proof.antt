@@ -1,6 +1,8 @@
 -- `tsendurkho::step_words` meets its contract: what the three calls ensure, one after the other. Assumes nothing.
 use borrow.Author.Needs.{needs}
-use mathlib.Core.Path.{_∙_}
+use mathlib.Core.Path.{_≡_, _∙_}
+use native.Mathlib.Omega.{arith}
+use lib.ListN.{length}
 use Rattle.tsendurkho.proofs.step_words.Statement.{statement}
 use Rattle.tsendurkho.proofs.step_words.Tie as tie
 
@@ -9,14 +11,17 @@ returns c =
     let e = c .before .before in
     let s = e .before .before .before .before .before in
     let d = s .before .before .before .before .before in
-    e .encode .ensures ∙ rw (s .step .ensures .1, d .decode .ensures)
+    e .encode .ensures ∙ rw (s .put-next .ensures, d .decode .ensures)
 
 pub step-words-spec : {M : Type 1} → statement M
 step-words-spec =
     tie.close
     (tie.spec
     (λ c κs. search needs)
-    (λ c κs. search needs)
+    (λ c κs. let d = c .before .before .before .before in
+    let s = d .before .before .before .before .before .before in
+    let same : length (d .decode .last .1 .0) ≡ length (s .args .heard .now) = omega (arith, d .decode .kept .1 .0) in
+    (rw same (s .pre .2), s .pre .3))
     (λ c κs. search needs)
     (λ c. search needs)
     (λ c. search needs)

@@ -2,12 +2,13 @@
 -- Assumes nothing.
 use borrow.Author.Needs.{needs}
 use borrow.Author.Tests.{ne-eqb}
-use mathlib.Core.Path.{_≡_, refl, sym, _∙_}
-use mathlib.Core.List.{List}
-use Prim.Native.Nat.{ℕ, _*_, _/_, _≤_}
+use mathlib.Core.Path.{_≡_, refl, sym, ap, _∙_}
+use mathlib.Core.List.{List, _∷_}
+use Prim.Native.Nat.{ℕ, zero, suc, _*_, _/_, _≤_}
 use native.Mathlib.Omega.{arith}
 use lib.ListN.{length, take, replicate, length-replicate}
 use lib.Seq.{length-take-le}
+use Rattle.rules.specs.Parameters.{recordWords}
 use Rattle.rules.specs.Calls.{stepBytesOut}
 use Rattle.rules.proofs.Records.{words-most, table-most}
 use Rattle.tsendurkho.proofs.Accepted.{StepBytes, accepted, step-same}
@@ -33,13 +34,21 @@ front size bytes = take (bytes / 2) (replicate size 0)
 record Lent (size bytes : ℕ) : Type 0 where
   inside : bytes / 2 ≤ size
   whole : bytes ≡ 2 * length (front size bytes)
+  zeros : front size bytes ≡ replicate (length (front size bytes)) 0
+
+take-zeros : (k m : ℕ) → k ≤ m → take {A = ℕ} k (replicate m 0) ≡ replicate k 0
+take-zeros zero m l = refl
+take-zeros (suc k) zero l = absurd (omega arith)
+take-zeros (suc k) (suc m) l = ap (λ (r : List ℕ). 0 ∷ r) (take-zeros k m (omega arith))
 
 lent : (size bytes words : ℕ) → bytes ≡ 2 * words → words ≤ size → Lent size bytes
 lent size bytes words e l =
     let n : length (replicate {A = ℕ} size 0) ≡ size = length-replicate size 0 in
+    let long : length (front size bytes) ≡ bytes / 2 = length-take-le {A = ℕ} (bytes / 2) (replicate size 0) (omega arith) in
     record {
       inside = omega arith;
-      whole = omega (arith, length-take-le {A = ℕ} (bytes / 2) (replicate size 0) (omega arith));
+      whole = omega (arith, long);
+      zeros = take-zeros (bytes / 2) size (omega arith) ∙ rw long;
     }
 
 table : (c : tie.Else1) → Lent 400 (length (c .before .before .before .before .args .records .now))
@@ -50,6 +59,15 @@ table c =
 
 one : (c : tie.Else1) → Lent 25 (length (c .before .before .before .before .args .out .now))
 one c = let s = good c in lent 25 _ _ (s .out-whole) (words-most (c .before .before .before .before .args .f) (s .shape .broken))
+
+-- the step on the words is not refused either
+step-words-requires : tie.Need-step-words-requires
+step-words-requires c κs =
+    let e = c .before .before .before in
+    let a = e .before .before .before .before .args in
+    let t : length (front 400 (length (a .records .now))) ≡ a .n * recordWords (a .f) = omega (arith, table e .whole, good e .records-whole) in
+    let w : length (front 25 (length (a .out .now))) ≡ recordWords (a .f) = omega (arith, one e .whole, good e .out-whole) in
+    (table e .whole, one e .whole, rw (t, w) (good e .on-words), one e .zeros)
 
 stepped : tie.Need-returns-2
 stepped c =
@@ -72,6 +90,6 @@ tsendurkho-step-spec =
     (λ c. omega (arith, table (c .before) .whole))
     (λ c. one (c .before) .inside)
     (λ c. omega (arith, one (c .before .before) .whole))
-    (λ c κs. let e = c .before .before .before in (table e .whole, one e .whole))
+    step-words-requires
     (λ c. search needs)
     stepped)
