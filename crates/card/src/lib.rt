@@ -1,5 +1,6 @@
 use level::group;
 use level::group::Group;
+use params::Row;
 use rules::Vote;
 use steps::pointer;
 ghost use mathlib.Core.Path.{_≡_};
@@ -10,6 +11,7 @@ ghost use Rattle.rules.specs.Parameters.{recordWords};
 ghost use Rattle.rules.specs.OneBeat.{leafNext, groupNext};
 ghost use Rattle.rules.specs.Refusals.{stepRefusal, shownRefusal};
 ghost use Rattle.rules.specs.Calls.{stepOut};
+ghost use Rattle.params.specs.Answers.{rowRead};
 ghost use Rattle.level.specs.Groups.{Fits, Split, heardBy};
 ghost use Rattle.card.specs.Answers.{halfNext, shownTo};
 
@@ -32,18 +34,18 @@ fn step_group(recs: &[u16], g: Group, card: usize, out: &mut [u16])
     if g.f == 0 {
         out[base] = leaf_word(recs, g);
     } else {
-        level::put_level(out, base, level::next_level(recs, g, card));
-        step_half(recs, g, card, out);
+        let row = params::row_of(g.f);
+        level::put_level(out, base, level::next_level(recs, g, card, row));
+        step_half(recs, g, card, row, out);
     }
 }
 
 // "The card's own half also steps, as a group, on the records of that half."
-fn step_half(recs: &[u16], g: Group, card: usize, out: &mut [u16])
-    requires { ⌜ (Split (length (now recs)) g) × (card < g .n) × (g .base + recordWords (g .f) ≤ length (now out)) ⌝ }
+fn step_half(recs: &[u16], g: Group, card: usize, row: Row, out: &mut [u16])
+    requires { ⌜ (Split (length (now recs)) g) × (card < g .n) × (row ≡ rowRead (g .f)) × (g .base + recordWords (g .f) ≤ length (now out)) ⌝ }
     ensures { λ _. ⌜ ((k : ℕ) → g .f ≤ k → now (out .exit) ≡ sets (now (out .entry)) (g .base + 8) (halfNext k (now (recs .entry)) g card)) ⌝ }
 {
     let half = g.n / 2;
-    let row = params::row_of(g.f);
     if card < half {
         step_group(recs, group::half_zero(g, row.c0), card, out);
     } else {

@@ -111,13 +111,14 @@ pub fn vote_of(recs: &[u16], col: Column, f: usize, m: usize) -> Vote
     ensures { λ r. ⌜ r ≡ vote (col .n) f m (votesIn m (now (recs .entry)) col) ⌝ }
 {
     let n = col.n;
+    let enough = n - f;
     let mut tally = [0u8; TALLY];
     for u in 0..n {
         let x = said(recs, col, u) as usize;
         if x < m {
             let t = tally[x] + 1;
             tally[x] = t;
-            if n <= t as usize + f {
+            if enough <= t as usize {
                 return Vote::Count(x as u16);
             }
         }

@@ -170,11 +170,10 @@ fn next_stand(recs: &[u16], g: Group, card: usize, own: Level, row: Row) -> Stan
 }
 
 // The level after the beat: everything on the right is from before it.
-pub fn next_level(recs: &[u16], g: Group, card: usize) -> Level
-    requires { ⌜ (Split (length (now recs)) g) × (card < g .n) ⌝ }
+pub fn next_level(recs: &[u16], g: Group, card: usize, row: Row) -> Level
+    requires { ⌜ (Split (length (now recs)) g) × (card < g .n) × (row ≡ rowRead (g .f)) ⌝ }
     ensures { λ r. ⌜ r ≡ levelAfter (g .n) (g .f) (g .c) (heardBy (now (recs .entry)) g) card ⌝ }
 {
-    let row = params::row_of(g.f);
     let own = read_level(recs, g, card, row);
     let vote0 = next_vote(recs, g, 0, row.c0);
     let vote1 = next_vote(recs, g, 1, row.c1);

@@ -47,51 +47,54 @@ step-half-below t = and 2 step-half-kinds.ps (falls 2 step-half-kinds.ps _<_ μ-
 pub +step-group+step-half-spec : {M : Type 1} → statement M
 +step-group+step-half-spec =
     close μ-step-group μ-step-half
-    (λ t. step-group-lts.spec (leaf-word-reads.Asked, leaf-word-reads.Learnt, next-level-reads.Asked, next-level-reads.Learnt, put-level-reads.Asked, put-level-reads.Learnt, step-half-below t, step-half.Post)
+    (λ t. step-group-lts.spec (leaf-word-reads.Asked, leaf-word-reads.Learnt, row-of-reads.Asked, row-of-reads.Learnt, next-level-reads.Asked, next-level-reads.Learnt, put-level-reads.Asked, put-level-reads.Learnt, step-half-below t, step-half.Post)
     (step-group-at t) step-group.Post
     (λ c κs. c .before .before .before .before .pre .1 .0)
     (λ c. search needs)
     (λ c. let s = c .before .before .before .before .before in omega (arith, s .pre .1 .2))
-    (λ c κs. let s = c .before .before .before .before .before in
-    (record { fits = s .pre .1 .0; some = omega arith }, s .pre .1 .1))
-    (λ c κs. let s = c .before .before .before .before .before .before in omega (arith, s .pre .1 .2, eight-words (s .args .g .f) (omega arith)))
-    (λ c κs. let s = c .before .before .before .before .before .before .before .before .before .before in
-    (omega (arith, s .pre .0), (record { fits = s .pre .1 .0; some = omega arith }, s .pre .1 .1, omega (arith, s .pre .1 .2, c .before .before .before .put-level .kept .0))))
+    (λ c κs. c .before .before .before .before .pre .1 .0 .broken)
+    (λ c κs. let s = c .before .before .before .before .before .before in
+    (record { fits = s .pre .1 .0; some = omega arith }, s .pre .1 .1, c .before .row-of .ensures))
+    (λ c κs. let s = c .before .before .before .before .before .before .before in omega (arith, s .pre .1 .2, eight-words (s .args .g .f) (omega arith)))
+    (λ c κs. let r = c .before .before .before .before .before .before in
+    let s = r .before .before .before .before .before in (
+      omega (arith, s .pre .0),
+      (record { fits = s .pre .1 .0; some = omega arith }, s .pre .1 .1, r .row-of .ensures, omega (arith, s .pre .1 .2, c .before .before .before .put-level .kept .0)),
+    ))
     (λ c. search needs)
     (λ c. let s = c .before .before .before .before .before in
     let g = s .args .g in
     leaf-is (g .n) (g .f) (g .c) (heardBy (s .args .recs .now) g) (s .args .card) (g .base) (s .args .out .now) (c .leaf-word .result) (c .before .if1 .taken) (c .leaf-word .ensures))
-    (λ c. c .before .before .step-half .kept .1 .1 .1 .0 ∙ c .before .before .before .before .before .before .put-level .kept .0)
+    (λ c. c .before .before .step-half .kept .1 .1 .1 .1 .0 ∙ c .before .before .before .before .before .before .put-level .kept .0)
     (λ c. let p = c .before .before .before .before .before .before in
     let l = p .before in
-    let s = l .before .before .before .before .before .before in
+    let s = l .before .before .before .before .before .before .before in
     let g = s .args .g in
     node-is (g .n) (g .f) (g .c) (heardBy (s .args .recs .now) g) (s .args .card) (g .base) (s .args .out .now) (p .put-level .last .0) _ (l .next-level .result)
-    (l .before .before .if1 .left) (l .next-level .ensures) (p .put-level .ensures) (c .before .before .step-half .ensures)))
-    (λ t. step-half-lts.spec (row-of-reads.Asked, row-of-reads.Learnt, half-zero-reads.Asked, half-zero-reads.Learnt, step-group-below t, step-group.Post, half-one-reads.Asked, half-one-reads.Learnt)
+    (l .before .before .before .if1 .left) (l .next-level .ensures) (p .put-level .ensures) (c .before .before .step-half .ensures)))
+    (λ t. step-half-lts.spec (half-zero-reads.Asked, half-zero-reads.Learnt, step-group-below t, step-group.Post, half-one-reads.Asked, half-one-reads.Learnt)
     (step-half-at t) step-half.Post
-    (λ c κs. c .before .before .before .pre .1 .0 .fits .broken)
-    (λ c κs. let s = c .before .before .before .before .before in
+    (λ c κs. let s = c .before .before .before .before in
     let g = s .pre .1 .0 in
-    (g .some, split-narrow g, row-is (s .args .g .f) (c .before .row-of .result) (g .some) (c .before .row-of .ensures) .m0))
-    (λ c κs. let s = c .before .before .before .before .before .before .before in
+    (g .some, split-narrow g, row-is (s .args .g .f) (s .args .row) (g .some) (s .pre .1 .2) .m0))
+    (λ c κs. let s = c .before .before .before .before .before .before in
     let h = half-smaller (s .args .g) (c .before .half-zero .result) 0 (s .pre .1 .0) (omega arith) (c .before .half-zero .ensures) in
-    (omega (arith, s .pre .0), (h .1, omega arith, omega (arith, s .pre .1 .2))))
-    (λ c κs. let s = c .before .before .before .before .before in
+    (omega (arith, s .pre .0), (h .1, omega arith, omega (arith, s .pre .1 .3))))
+    (λ c κs. let s = c .before .before .before .before in
     let g = s .pre .1 .0 in
-    (g .some, split-narrow g, split-cards g, row-is (s .args .g .f) (c .before .row-of .result) (g .some) (c .before .row-of .ensures) .m1))
-    (λ c κs. let s = c .before .before .before .before .before .before .before in
+    (g .some, split-narrow g, split-cards g, row-is (s .args .g .f) (s .args .row) (g .some) (s .pre .1 .2) .m1))
+    (λ c κs. let s = c .before .before .before .before .before .before in
     let h = half-smaller (s .args .g) (c .before .half-one .result) 1 (s .pre .1 .0) (omega arith) (c .before .half-one .ensures) in
-    (omega (arith, s .pre .0), (h .1, omega (arith, s .pre .1 .1), omega (arith, s .pre .1 .2))))
+    (omega (arith, s .pre .0), (h .1, omega (arith, s .pre .1 .1), omega (arith, s .pre .1 .3))))
     (λ c. c .before .before .step-group .kept .1 .1 .1 .0)
     (λ c. let h = c .before .before .before .before in
-    let s = h .before .before .before .before .before .before in
+    let s = h .before .before .before .before .before in
     λ k l. c .before .before .step-group .ensures k (omega (arith, half-smaller (s .args .g) (h .half-zero .result) 0 (s .pre .1 .0) (omega arith) (h .half-zero .ensures) .0))
     ∙ half-is (s .args .recs .now) (s .args .g) (h .half-zero .result) 0 (s .args .card) (s .args .card) k (s .args .out .now) (h .half-zero .ensures)
     (simp (lt-ltb _ _ (h .before .if1 .taken))) (omega arith))
     (λ c. c .before .before .step-group2 .kept .1 .1 .1 .0)
     (λ c. let h = c .before .before .before .before in
-    let s = h .before .before .before .before .before .before in
+    let s = h .before .before .before .before .before in
     λ k l. c .before .before .step-group2 .ensures k (omega (arith, half-smaller (s .args .g) (h .half-one .result) 1 (s .pre .1 .0) (omega arith) (h .half-one .ensures) .0))
     ∙ half-is (s .args .recs .now) (s .args .g) (h .half-one .result) 1 (s .args .card) _ k (s .args .out .now) (h .half-one .ensures)
     (simp (le-ltb _ _ (h .before .if1 .left))) refl))

@@ -18,12 +18,12 @@ use Rattle.columns.proofs.vote_of.Statement.{statement}
 use Rattle.columns.proofs.vote_of.Tie as tie
 
 abbrev Inv-loop : tie.InvT-loop
-Inv-loop recs col f m n tally₀ u₀ tally u =
+Inv-loop recs col f m n enough tally₀ u₀ tally u =
     (u ≤ col .n) × (length tally ≡ 128) × (Tally (votesIn m recs col) m tally u)
     × ((j : ℕ) → j < m → sentBy u (votesIn m recs col) (Count j) + f < col .n)
 
 abbrev μ-loop : tie.MeasureT-loop
-μ-loop recs col f m n tally₀ u₀ tally u = col .n - u
+μ-loop recs col f m n enough tally₀ u₀ tally u = col .n - u
 
 -- the votes of the column
 abbrev votes : tie.At-loop Inv-loop μ-loop → ℕ → Vote
@@ -64,7 +64,7 @@ loop-again c =
       omega arith,
       simp length-set (l .loop .inv .1),
       tally-more v (a .m) (l .loop .tally) u x (omega arith) (r .1) (w .0 .taken) (l .loop .inv .2),
-      still-short v (a .col .n) (a .f) (a .m) u x (r .1) (rw (r .2) (w .1 .left)) (l .loop .inv .3),
+      still-short v (a .col .n) (a .f) (a .m) u x (r .1) (omega (arith, r .2)) (l .loop .inv .3),
     ))
     (λ w. let z : v u ≡ None = ap (readVote (a .m)) (sym (c .before .said .ensures)) ∙ read-above (a .m) x (w .0 .left) in
     rw (w .1)
@@ -83,6 +83,7 @@ vote-of-spec =
     (tie.spec
     Inv-loop
     μ-loop
+    (λ c. omega arith)
     (λ c. let a = c .before .args in
     let v = votesIn (a .m) (a .recs .now) (a .col) in
     (omega arith, refl, tally-start v (a .m) 128 (omega arith), λ j l. omega (arith, sent-zero v (Count j))))
@@ -93,7 +94,6 @@ vote-of-spec =
     let a = l .before .before .args in
     omega (arith, l .loop .inv .2 .counts (c .before .said .result) (c .if1 .taken), sent-le (votesIn (a .m) (a .recs .now) (a .col)) (l .loop .u) (Count (c .before .said .result))))
     (λ c. omega arith)
-    (λ c. omega (arith, more c .0))
     (λ c. omega (arith, more c .0))
     (λ c. search needs)
     found

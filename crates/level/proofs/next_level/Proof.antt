@@ -9,8 +9,8 @@ use Rattle.level.proofs.Rows.{RowOf, row-is}
 use Rattle.level.proofs.next_level.Statement.{statement}
 use Rattle.level.proofs.next_level.Tie as tie
 
-row : (c : tie.After-row-of) → RowOf (c .before .before .args .g .f) (c .row-of .result)
-row c = let s = c .before .before in row-is (s .args .g .f) (c .row-of .result) (s .pre .0 .some) (c .row-of .ensures)
+row : (c : tie.Start) → RowOf (c .args .g .f) (c .args .row)
+row c = row-is (c .args .g .f) (c .args .row) (c .pre .0 .some) (c .pre .2)
 
 returns : tie.Need-returns
 unfolding levelAfter nextWait
@@ -19,8 +19,8 @@ returns c =
     let voted = stand .before in
     let votes = voted .before .before in
     let own = votes .before .before in
-    let r = row (own .before) in
-    let s = own .before .before .before in
+    let s = own .before .before in
+    let r = row s in
     let recs = s .args .recs .now in
     let m0 = c .before .before .common-output .ensures ∙ half-common recs (s .args .g) (c .before .before .before .half-zero .result) 0 (c .before .before .before .half-zero .ensures) in
     let m1 = c .common-output2 .ensures ∙ half-common recs (s .args .g) (c .before .half-one .result) 1 (c .before .half-one .ensures) in
@@ -44,23 +44,19 @@ next-level-spec =
     tie.close
     (tie.spec
     (λ c κs. search needs)
-    (λ c κs. search needs)
-    (λ c κs. (c .before .before .before .pre .0, omega arith, row (c .before) .m0))
-    (λ c κs. (c .before .before .before .before .pre .0, omega arith, row (c .before .before) .m1))
-    (λ c κs. omega (arith, row (c .before .before .before) .m0))
-    (λ c κs. omega (arith, row (c .before .before .before .before) .m1))
+    (λ c κs. let s = c .before .before in (s .pre .0, omega arith, row s .m0))
+    (λ c κs. let s = c .before .before .before in (s .pre .0, omega arith, row s .m1))
+    (λ c κs. omega (arith, row (c .before .before .before .before) .m0))
+    (λ c κs. omega (arith, row (c .before .before .before .before .before) .m1))
     (λ c κs. let own = c .before .before .before .before in
-    let s = own .before .before .before in
-    (s .pre .0, s .pre .1, own .before .row-of .ensures, own .read-level .ensures))
-    (λ c κs. let r = c .before .before .before .before .before .before in
-    let s = r .before .before in
-    (s .pre .0 .some, split-narrow (s .pre .0), row r .m0))
-    (λ c κs. let s = c .before .before .before .before .before .before .before .before .before in
+    let s = own .before .before in
+    (s .pre .0, s .pre .1, s .pre .2, own .read-level .ensures))
+    (λ c κs. let s = c .before .before .before .before .before .before .before in
+    (s .pre .0 .some, split-narrow (s .pre .0), row s .m0))
+    (λ c κs. let s = c .before .before .before .before .before .before .before .before in
     rw (c .half-zero .ensures) (half-fits (s .pre .0) 0 (omega arith), omega (arith, s .pre .0 .fits .broken)))
-    (λ c κs. let r = c .before .before .before .before .before .before .before .before in
-    let s = r .before .before in
-    let t = s .pre .0 .fits in
-    (s .pre .0 .some, split-narrow (s .pre .0), split-cards (s .pre .0), row r .m1))
-    (λ c κs. let s = c .before .before .before .before .before .before .before .before .before .before .before in
+    (λ c κs. let s = c .before .before .before .before .before .before .before .before .before in
+    (s .pre .0 .some, split-narrow (s .pre .0), split-cards (s .pre .0), row s .m1))
+    (λ c κs. let s = c .before .before .before .before .before .before .before .before .before .before in
     rw (c .half-one .ensures) (half-fits (s .pre .0) 1 (omega arith), omega (arith, s .pre .0 .fits .broken)))
     returns)
