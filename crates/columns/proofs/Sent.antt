@@ -1,19 +1,66 @@
 -- How many cards sent a value, as the cards are gone through one by one; the vote and the smallest supported count, by what
 -- such a search finds. Assumes nothing.
 use mathlib.Core.Path.{_≡_, refl, sym, ap, _∙_}
-use mathlib.Core.Bool.{Bool, true, false}
+use mathlib.Core.Bool.{Bool, true, false, not, _&&_}
 use mathlib.Core.Logic.{⊎-elim}
 use Prim.Native.Nat.{ℕ, zero, suc, _+_, _*_, _-_, _≤_, _<_}
 use native.Mathlib.Omega.{arith}
 use lib.Dec.{eqb, ltb, leb}
-use borrow.Author.Tests.{eqb-true, eqb-false, lt-ltb, le-ltb, le-leb, lt-leb}
+use borrow.Author.Tests.{eqb-true, eqb-false, lt-ltb, le-ltb, le-leb, lt-leb, eq-eqb, ne-eqb}
 use Rattle.rules.specs.declared.Vote.{Vote}
 use Rattle.rules.specs.declared.Vote.the-variants.{Count, None}
 use Rattle.rules.specs.Counting.{countBelow, same}
+use Rattle.rules.specs.Groups.{readVote}
 use Rattle.rules.specs.OneBeat.{sentBy, enough, vote, supported}
-use Rattle.rules.proofs.Tests.{decided, le-or-lt}
-use Rattle.rules.proofs.Counting.{count-yes, count-no, count-le, count-some, count-split, count-apart, least-at, least-none}
-use Rattle.rules.proofs.Votes.{count-none, same-true, same-eq}
+use Rattle.rules.proofs.Tests.{decided, never, le-or-lt, lt-or-le}
+use Rattle.rules.proofs.Counting.{count-yes, count-no, count-same, count-not, count-le, count-some, count-split, count-apart, least-at, least-none}
+use Rattle.rules.proofs.Votes.{count-none, same-true, same-eq, read-below, read-above, read-is}
+use Rattle.columns.specs.Columns.{lies}
+
+not-same : (v : Vote) (x : ℕ) → (v ≡ Count x → ⊥) → same v (Count x) ≡ false
+not-same v x ne = ⊎-elim
+    (λ (t : same v (Count x) ≡ true). absurd (ne (same-true v (Count x) t)))
+    (λ (t : same v (Count x) ≡ false). t)
+    (decided (same v (Count x)))
+
+-- a word reads as x where it is x, which is below m; it reads as none where it is not below m
+reads-x : (m word x : ℕ) → x < m → lies x (x + 1) word ≡ same (readVote m word) (Count x)
+unfolding same
+reads-x m word x l = ⊎-elim
+    (λ (w : word < x). rw (lt-leb x word w, read-below m word (omega arith), ne-eqb word x (λ e. omega arith)))
+    (λ (w : x ≤ word). ⊎-elim
+    (λ (v : word ≤ x). rw (le-leb x word w, lt-ltb word (x + 1) (omega arith), read-below m word (omega arith), eq-eqb word x (omega arith)))
+    (λ (v : x < word). rw (le-leb x word w, le-ltb word (x + 1) (omega arith)) (sym (not-same (readVote m word) x (λ e. let r = read-is m word x e in omega (arith, r .0)))))
+    (le-or-lt word x))
+    (lt-or-le word x)
+
+reads-none : (m word : ℕ) → not (lies 0 m word) ≡ same (readVote m word) None
+unfolding same
+reads-none m word = ⊎-elim
+    (λ (w : word < m). rw (lt-ltb word m w, le-leb 0 word (omega arith), read-below m word w))
+    (λ (w : m ≤ word). rw (le-ltb word m w, le-leb 0 word (omega arith), read-above m word w))
+    (lt-or-le word m)
+
+-- so the cards that sent a count, and those that sent none, are counted by their words
+pub sent-x : (words : ℕ → ℕ) (m n x : ℕ) → x < m
+    → countBelow n (λ (u : ℕ). lies x (x + 1) (words u)) ≡ sentBy n (λ (u : ℕ). readVote m (words u)) (Count x)
+unfolding sentBy
+sent-x words m n x l = count-same n _ _ (λ u lu. reads-x m (words u) x l)
+
+pub sent-none : (words : ℕ → ℕ) (m n : ℕ)
+    → countBelow n (λ (u : ℕ). lies 0 m (words u)) + sentBy n (λ (u : ℕ). readVote m (words u)) None ≡ n
+unfolding sentBy
+sent-none words m n =
+    omega (arith, count-not n (λ (u : ℕ). lies 0 m (words u)), count-same n _ _ (λ (u : ℕ) (lu : u < n). reads-none m (words u)))
+
+-- no card sent a count that is not below m
+pub sent-never : (words : ℕ → ℕ) (m n x : ℕ) → m ≤ x → sentBy n (λ (u : ℕ). readVote m (words u)) (Count x) ≡ 0
+unfolding sentBy
+sent-never words m n x l = ⊎-elim
+    (λ z. let u = count-some n _ z in
+    let r = read-is m (words (u .0)) x (same-true _ _ (u .2)) in absurd (omega (arith, r .1)))
+    (λ z. omega arith)
+    (lt-or-le 0 (countBelow n (λ (u : ℕ). same (readVote m (words u)) (Count x))))
 
 -- one card more
 pub sent-yes : (heard : ℕ → Vote) (u : ℕ) (y : Vote) → heard u ≡ y → sentBy (u + 1) heard y ≡ sentBy u heard y + 1

@@ -1,8 +1,8 @@
 -- A column of a table of records: the same word of some cards that stand side by side. Assumes nothing.
 use Prim.Native.Nat.{ℕ, _+_, _*_, _≤_, _<_, min}
-use mathlib.Core.Bool.{cond}
+use mathlib.Core.Bool.{Bool, cond, _&&_}
 use mathlib.Core.List.{List}
-use lib.Dec.{ltb}
+use lib.Dec.{leb, ltb}
 use Rattle.rules.specs.declared.Vote.{Vote}
 use Rattle.rules.specs.Groups.{heardIn, readVote}
 use Rattle.columns.specs.declared.Column.{Column}
@@ -19,6 +19,10 @@ wordIn recs col u = heardIn (col .w) recs (col .first + u) (col .at)
 
 abbrev pub votesIn : ℕ → List ℕ → Column → ℕ → Vote
 votesIn m recs col u = readVote m (wordIn recs col u)
+
+-- is a word from low on and below high?
+abbrev pub lies : ℕ → ℕ → ℕ → Bool
+lies low high word = leb low word && ltb word high
 
 -- the more frequent of two values, the smaller on a tie
 unfoldable pub leader : ℕ → ℕ → ℕ → ℕ → ℕ

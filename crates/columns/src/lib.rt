@@ -3,10 +3,10 @@ ghost use mathlib.Core.Path.{_≡_};
 ghost use mathlib.Core.Bool.{Bool};
 ghost use Prim.Native.Nat.{ℕ, _+_, _*_, _<_, _≤_};
 ghost use lib.ListN.{length};
-ghost use Rattle.rules.specs.Counting.{same};
+ghost use Rattle.rules.specs.Counting.{countBelow};
 ghost use Rattle.rules.specs.Groups.{readVote};
 ghost use Rattle.rules.specs.OneBeat.{sentBy, mostFrequent, vote, supported};
-ghost use Rattle.columns.specs.Columns.{Within, wordIn, votesIn, leader};
+ghost use Rattle.columns.specs.Columns.{Within, wordIn, votesIn, lies, leader};
 
 // The word `at` of each of n cards, from the card `first` on, in a table of `cards` records of w words.
 pub struct Column {
@@ -41,35 +41,46 @@ pub fn read_vote(m: u32, word: u16) -> Vote
     }
 }
 
-// Are two votes the same? None is the same as none.
-fn alike(x: Vote, y: Vote) -> bool
-    ensures { λ r. ⌜ r ≡ same x y ⌝ }
+fn lies(low: u32, high: u32, word: u16) -> bool
+    ensures { λ r. ⌜ r ≡ lies low high word ⌝ }
 {
-    match x {
-        Vote::Count(i) => match y {
-            Vote::Count(j) => i == j,
-            Vote::None => false,
-        },
-        Vote::None => match y {
-            Vote::Count(_) => false,
-            Vote::None => true,
-        },
+    if (word as u32) < low {
+        return false;
     }
+    (word as u32) < high
 }
 
-// How many cards of the column sent y.
-pub fn sent_by(recs: &[u16], col: Column, m: u32, y: Vote) -> usize
+// How many cards of the column said a word from `low` on and below `high`.
+fn between(recs: &[u16], col: Column, low: u32, high: u32) -> usize
     requires { ⌜ Within (length (now recs)) col ⌝ }
-    ensures { λ r. ⌜ (r ≡ sentBy (col .n) (votesIn m (now (recs .entry)) col) y) × (r ≤ col .n) ⌝ }
+    ensures { λ r. ⌜ (r ≡ countBelow (col .n) (λ (u : ℕ). lies low high (wordIn (now (recs .entry)) col u))) × (r ≤ col .n) ⌝ }
 {
     let n = col.n;
     let mut k: usize = 0;
     for u in 0..n {
-        if alike(read_vote(m, said(recs, col, u)), y) {
+        if lies(low, high, said(recs, col, u)) {
             k += 1;
         }
     }
     k
+}
+
+// How many cards of the column sent y. Who sent no count sent none.
+pub fn sent_by(recs: &[u16], col: Column, m: u32, y: Vote) -> usize
+    requires { ⌜ Within (length (now recs)) col ⌝ }
+    ensures { λ r. ⌜ (r ≡ sentBy (col .n) (votesIn m (now (recs .entry)) col) y) × (r ≤ col .n) ⌝ }
+{
+    match y {
+        Vote::Count(x) => {
+            let value = x as u32;
+            if value < m {
+                between(recs, col, value, value + 1)
+            } else {
+                0
+            }
+        }
+        Vote::None => col.n - between(recs, col, 0, m),
+    }
 }
 
 // Which of two values leads, x that was sent t times or `best` that was sent `most` times: the more frequent, the smaller on
