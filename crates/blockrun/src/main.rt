@@ -1,11 +1,37 @@
 // The run program: standard input to standard output, a piece at a time, with fixed buffers. A failed read is the end of
-// the input.
+// the input, and a failed write the end of the output; either is told on standard error.
+ghost use Rattle.io.specs.Counts.{Counts};
+use libc::STDERR_FILENO;
 use libc::STDIN_FILENO;
 use libc::STDOUT_FILENO;
 use runfile::feed;
 use runfile::feed::Feed;
 
-// Feeds a piece line by line, and writes each output line as it is known.
+// Reads a piece, and answers how long it is: 0 where the input ends or the read failed.
+fn get(piece: &mut [u8]) -> usize
+    ensures { λ r. ⌜ Counts r (now (piece .exit)) ⌝ }
+{
+    let got = libc::read(STDIN_FILENO, piece);
+    if got < 0 {
+        io::write_all(STDERR_FILENO, b"blockrun: the input could not be read\n");
+    }
+    io::count(got, piece)
+}
+
+// Writes some output, and answers whether all of it was written.
+fn put(text: &[u8]) -> bool {
+    let whole = io::write_all(STDOUT_FILENO, text);
+    if !whole {
+        io::write_all(
+            STDERR_FILENO,
+            b"blockrun: the output could not be written\n",
+        );
+    }
+    whole
+}
+
+// Feeds a piece line by line, and writes each output line as it is known. After a line that could not be written nothing
+// more is: another line behind a part of it would be read as one line with wrong counts.
 fn run_piece(before: Feed, piece: &[u8], line: &mut [u8; 8005], table: &mut [u16; 400]) -> Feed {
     let mut state = before;
     let mut at: usize = 0;
@@ -15,7 +41,9 @@ fn run_piece(before: Feed, piece: &[u8], line: &mut [u8; 8005], table: &mut [u16
         state = fed.feed;
         at = fed.next;
         let written = fed.written;
-        io::write_all(STDOUT_FILENO, &out[..written]);
+        if !put(&out[..written]) {
+            return Feed::Stopped;
+        }
     }
     state
 }
@@ -35,8 +63,7 @@ fn run_input(line: &mut [u8; 8005], table: &mut [u16; 400]) -> Feed {
     let mut turns = u64::MAX;
     while turns > 0 {
         turns -= 1;
-        let got = libc::read(STDIN_FILENO, &mut piece);
-        let count = io::count(got, &piece);
+        let count = get(&mut piece);
         if count == 0 {
             return state;
         }
@@ -54,5 +81,5 @@ fn main() {
     let mut out = [0u8; 69];
     let state = run_input(&mut line, &mut table);
     let written = feed::finish(state, &line, &mut table, &mut out);
-    io::write_all(STDOUT_FILENO, &out[..written]);
+    put(&out[..written]);
 }

@@ -1,6 +1,6 @@
 -- `blockrun::run_input` is safe and ends: the measure is the number of turns that are left. Assumes nothing.
 use borrow.Author.Needs.{needs}
-use mathlib.Core.Path.{_≡_, sym, _∙_}
+use mathlib.Core.Path.{_≡_, _∙_}
 use lib.ListN.{length}
 use Rattle.blockrun.proofs.run_input.Statement.{statement}
 use Rattle.blockrun.proofs.run_input.Tie as tie
@@ -12,8 +12,8 @@ abbrev μ-loop : tie.MeasureT-loop
 μ-loop line₀ table₀ piece₀ state₀ turns₀ line table piece state turns = turns
 
 -- a read leaves the buffer as long as it was
-same : (c : tie.After-read Inv-loop μ-loop) → length (c .read .last .1 .0) ≡ 65536
-same c = c .read .kept .1 .0 ∙ c .before .before .before .loop .inv
+same : (c : tie.After-get Inv-loop μ-loop) → length (c .get .last .0) ≡ 65536
+same c = c .get .kept .0 ∙ c .before .before .before .loop .inv
 
 pub run-input-spec : {M : Type 1} → statement M
 run-input-spec =
@@ -27,8 +27,6 @@ run-input-spec =
     (λ c. search needs)
     (λ c. search needs)
     (λ c κs. search needs)
-    (λ c. sym (same (c .before .before)))
-    (λ c κs. search needs)
     (λ c. search needs)
     (λ c. search needs)
     (λ c. search needs)
@@ -36,5 +34,5 @@ run-input-spec =
     (λ c κs. search needs)
     (λ c. search needs)
     (λ c. search needs)
-    (λ c. same (c .before .before .before .before .before .before .before .before .before .before))
+    (λ c. same (c .before .before .before .before .before .before .before .before))
     (λ c. search needs))

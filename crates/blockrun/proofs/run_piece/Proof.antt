@@ -31,6 +31,7 @@ run-piece-spec =
     fits
     (λ c. sym (length-take-le _ _ (fits (c .before))))
     (λ c κs. search needs)
-    (λ c. omega (arith, c .before .before .feed-from .ensures .next))
+    (λ c. search needs)
+    (λ c. omega (arith, c .before .before .before .feed-from .ensures .next))
     (λ c. tt)
     (λ c. search needs))
