@@ -5,14 +5,28 @@ use std::path::{Path, PathBuf};
 use std::process::{Child, ChildStdin, ChildStdout, Command, Stdio};
 use std::thread;
 
+use second::runfile::run;
+
 /// The root of the repository.
 pub fn root() -> PathBuf {
     Path::new(env!("CARGO_MANIFEST_DIR")).join("../..")
 }
 
+/// The launcher at the root.
+pub fn launcher() -> PathBuf {
+    root().join("tsendurkho")
+}
+
+/// What the second implementation writes.
+pub fn wanted(text: &[u8]) -> Vec<u8> {
+    let mut output = Vec::new();
+    run(text, &mut output).expect("a vector takes all");
+    output
+}
+
 /// The running program, and both ends of it.
 pub fn start() -> (Child, ChildStdin, ChildStdout) {
-    let mut child = Command::new(root().join("tsendurkho"))
+    let mut child = Command::new(launcher())
         .arg("run")
         .stdin(Stdio::piped())
         .stdout(Stdio::piped())

@@ -3,17 +3,10 @@
 use std::fs;
 use std::io::{BufRead, BufReader};
 
-use program::{output_of, root, send, start};
+use program::{output_of, root, send, start, wanted};
 use second::generate::runfiles::{damaged, Damage, RunFile};
 use second::generate::Shape;
 use second::random::Random;
-use second::runfile::run;
-
-fn wanted(text: &[u8]) -> Vec<u8> {
-    let mut output = Vec::new();
-    run(text, &mut output).expect("a vector takes all");
-    output
-}
 
 /// A text cut in pieces of one byte up to this many.
 fn pieces<'a>(random: &mut Random, text: &'a [u8], longest: usize) -> Vec<&'a [u8]> {

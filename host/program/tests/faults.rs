@@ -1,0 +1,255 @@
+//! What the program does where its input or output fails, as docs/FAULTS.md says: what is printed is right as far as it
+//! goes, the rest is told on standard error, and the launcher's exit status is not 0.
+
+use std::fs::{self, File, OpenOptions};
+use std::io::{BufRead, BufReader, Write};
+use std::os::unix::io::OwnedFd;
+use std::os::unix::net::{UnixDatagram, UnixStream};
+use std::path::PathBuf;
+use std::process::{Command, ExitStatus, Output, Stdio};
+use std::thread;
+
+use program::{launcher, root, send, wanted};
+use second::generate::runfiles::RunFile;
+use second::generate::Shape;
+use second::random::Random;
+
+const UNREAD: &str = "blockrun: the input could not be read\n";
+const UNWRITTEN: &str = "blockrun: the output could not be written\n";
+
+/// A shell for what Rust cannot say. The launcher is its `$0`.
+fn shell(script: &str) -> Command {
+    let mut command = Command::new("sh");
+    command.arg("-c").arg(script).arg(launcher());
+    command
+}
+
+fn run() -> Command {
+    let mut command = Command::new(launcher());
+    command.arg("run");
+    command
+}
+
+/// What a command does with an input, of which it need not take all.
+fn finished(command: &mut Command, text: &[u8]) -> Output {
+    let mut child = command
+        .stdin(Stdio::piped())
+        .stdout(Stdio::piped())
+        .stderr(Stdio::piped())
+        .spawn()
+        .expect("the launcher starts");
+    let mut input = child.stdin.take().expect("its input is a pipe");
+    thread::scope(|scope| {
+        scope.spawn(move || send(&mut input, text));
+        child.wait_with_output().expect("the launcher ends")
+    })
+}
+
+fn text_of(bytes: &[u8]) -> String {
+    String::from_utf8_lossy(bytes).into_owned()
+}
+
+/// The output, what is told on standard error, and the exit status.
+fn assert_ends(ended: Output, output: &[u8], told: &str, status: i32) {
+    let Output {
+        stdout,
+        stderr,
+        status: code,
+    } = ended;
+    let found = (text_of(&stdout), text_of(&stderr), code.code());
+    assert_eq!(found, (text_of(output), told.to_string(), Some(status)));
+}
+
+/// A small file with a broken card, and its beats.
+fn small_file() -> Vec<u8> {
+    let shape = Shape { n: 4, f: 1, c: 8 };
+    RunFile::of_length(&mut Random::new(201), shape, 0b0100, 2).text()
+}
+
+/// A file far longer than all buffers between two processes.
+fn large_file() -> Vec<u8> {
+    let shape = Shape {
+        n: 16,
+        f: 5,
+        c: 1_000,
+    };
+    RunFile::of_length(&mut Random::new(202), shape, 0b11111, 300).text()
+}
+
+/// A folder of a test's own, for what it writes.
+fn scratch(name: &str) -> PathBuf {
+    let folder = PathBuf::from(env!("CARGO_TARGET_TMPDIR")).join(name);
+    fs::create_dir_all(&folder).expect("a folder for the test");
+    folder
+}
+
+#[test]
+fn an_input_that_ends_anywhere() {
+    let text = small_file();
+    for end in 0..=text.len() {
+        let part = &text[..end];
+        assert_ends(finished(&mut run(), part), &wanted(part), "", 0);
+    }
+}
+
+/// Each datagram is one read, and an empty one is the end.
+#[test]
+fn reads_of_one_byte() {
+    let text = small_file();
+    let (ours, theirs) = UnixDatagram::pair().expect("a pair of sockets");
+    let child = run()
+        .stdin(OwnedFd::from(theirs))
+        .stdout(Stdio::piped())
+        .spawn()
+        .expect("the launcher starts");
+    for byte in &text {
+        ours.send(&[*byte]).expect("the program takes a byte");
+    }
+    ours.send(&[]).expect("the program takes the end");
+    let ended = child.wait_with_output().expect("the launcher ends");
+    assert_eq!(text_of(&ended.stdout), text_of(&wanted(&text)));
+}
+
+/// A socket that may not wait fails to be read behind the bytes that are there, as an interrupted read fails.
+#[test]
+fn a_read_that_fails_anywhere() {
+    let text = small_file();
+    for end in 0..=text.len() {
+        let (mut ours, theirs) = UnixStream::pair().expect("a pair of sockets");
+        ours.write_all(&text[..end])
+            .expect("the socket takes a few bytes");
+        theirs
+            .set_nonblocking(true)
+            .expect("a socket that does not wait");
+        let ended = run()
+            .stdin(OwnedFd::from(theirs))
+            .output()
+            .expect("the launcher runs");
+        assert_ends(ended, &wanted(&text[..end]), UNREAD, 1);
+    }
+}
+
+#[test]
+fn an_input_that_cannot_be_read() {
+    let nothing = wanted(b"");
+    let folder = File::open(root()).expect("a folder can be opened");
+    let ended = run().stdin(folder).output().expect("the launcher runs");
+    assert_ends(ended, &nothing, UNREAD, 1);
+    let closed = shell("exec \"$0\" run <&-")
+        .output()
+        .expect("the launcher runs");
+    assert_ends(closed, &nothing, UNREAD, 1);
+}
+
+/// Sends a signal to a whole group of processes.
+fn signal(name: &str, group: u32) {
+    let mut kill = shell("kill -s \"$1\" -- \"-$2\"");
+    let status = kill.arg(name).arg(group.to_string()).status();
+    assert!(status.expect("a shell starts").success(), "{name}");
+}
+
+/// A signal that stops the program and one that lets it go on interrupt its read, and change nothing.
+#[test]
+fn a_program_that_is_stopped_and_goes_on() {
+    let text = small_file();
+    // A session of its own, and so a group of processes with the launcher's number.
+    let mut command = Command::new("setsid");
+    command
+        .arg(launcher())
+        .arg("run")
+        .stdin(Stdio::piped())
+        .stdout(Stdio::piped());
+    let mut child = command.spawn().expect("the launcher starts");
+    let mut input = child.stdin.take().expect("its input is a pipe");
+    let mut output = BufReader::new(child.stdout.take().expect("its output is a pipe"));
+    let mut written = String::new();
+    for (number, line) in text.split_inclusive(|&byte| byte == b'\n').enumerate() {
+        assert!(send(&mut input, line));
+        if number == 0 {
+            continue;
+        }
+        output
+            .read_line(&mut written)
+            .expect("a line of the output");
+        signal("STOP", child.id());
+        signal("CONT", child.id());
+    }
+    drop(input);
+    output
+        .read_line(&mut written)
+        .expect("the end of the output");
+    assert_eq!(written, text_of(&wanted(&text)));
+    assert!(child.wait().expect("the launcher ends").success());
+}
+
+/// Nothing is read any more after a write that failed: most of a large input is left over.
+#[test]
+fn a_full_disk() {
+    let full = OpenOptions::new()
+        .write(true)
+        .open("/dev/full")
+        .expect("/dev/full");
+    let mut child = run()
+        .stdin(Stdio::piped())
+        .stdout(full)
+        .stderr(Stdio::piped())
+        .spawn()
+        .expect("the launcher starts");
+    let mut input = child.stdin.take().expect("its input is a pipe");
+    assert!(!send(&mut input, &large_file()));
+    let ended = child.wait_with_output().expect("the launcher ends");
+    assert_ends(ended, b"", UNWRITTEN, 1);
+}
+
+/// A limit on the size of a file cuts a write short, and then every write fails.
+#[test]
+fn a_disk_that_fills_up() {
+    let text = large_file();
+    let whole = wanted(&text);
+    let printed = scratch("fills-up").join("out.txt");
+    for blocks in 1..=8 {
+        let mut limited = shell("trap '' XFSZ; ulimit -f \"$1\"; exec \"$0\" run >\"$2\"");
+        limited.arg(blocks.to_string()).arg(&printed);
+        assert_ends(finished(&mut limited, &text), b"", UNWRITTEN, 1);
+        let part = fs::read(&printed).expect("what was written");
+        // A shell counts in blocks of 512 bytes, or of 1,024.
+        assert!(
+            [512 * blocks, 1_024 * blocks].contains(&part.len()),
+            "{}",
+            part.len()
+        );
+        assert!(whole.starts_with(&part));
+    }
+}
+
+#[test]
+fn an_output_that_cannot_be_written() {
+    let closed = finished(&mut shell("exec \"$0\" run >&-"), &small_file());
+    assert_ends(closed, b"", "tsendurkho: standard output is closed\n", 1);
+    let for_reading = finished(&mut shell("exec \"$0\" run 1</dev/null"), &small_file());
+    assert_ends(for_reading, b"", UNWRITTEN, 1);
+}
+
+/// How the launcher ends, and what is told, where nobody reads the output.
+fn unread(mut command: Command) -> (ExitStatus, String) {
+    let mut child = command
+        .stdin(Stdio::piped())
+        .stdout(Stdio::piped())
+        .stderr(Stdio::piped())
+        .spawn()
+        .expect("the launcher starts");
+    drop(child.stdout.take());
+    let mut input = child.stdin.take().expect("its input is a pipe");
+    assert!(!send(&mut input, &large_file()));
+    let ended = child.wait_with_output().expect("the launcher ends");
+    (ended.status, text_of(&ended.stderr))
+}
+
+/// The system ends the program by signal 13, as it ends others; where that signal is ignored, the write fails.
+#[test]
+fn a_reader_that_goes_away() {
+    let (status, told) = unread(run());
+    assert_eq!((status.code(), told.as_str()), (Some(128 + 13), ""));
+    let (status, told) = unread(shell("trap '' PIPE; exec \"$0\" run"));
+    assert_eq!((status.code(), told.as_str()), (Some(1), UNWRITTEN));
+}
