@@ -1,11 +1,10 @@
 // The run program: standard input to standard output, a piece at a time, with fixed buffers. A failed read is the end of
 // the input, and a failed write the end of the output; either is told on standard error.
 ghost use Rattle.io.specs.Counts.{Counts};
+use feed::Feed;
 use libc::STDERR_FILENO;
 use libc::STDIN_FILENO;
 use libc::STDOUT_FILENO;
-use runfile::feed;
-use runfile::feed::Feed;
 
 // Reads a piece, and answers how long it is: 0 where the input ends or the read failed.
 fn get(piece: &mut [u8]) -> usize

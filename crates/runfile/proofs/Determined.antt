@@ -2,54 +2,13 @@
 use mathlib.Core.Path.{_≡_}
 use mathlib.Core.List.{List}
 use Prim.Native.Nat.{ℕ}
-use lib.ListN.{length}
-use lib.Seq.{sets}
-use Rattle.rules.specs.RunFile.{Taken, refusalLine}
-use Rattle.rules.proofs.Determined.{only-one, both-only}
-use Rattle.runfile.specs.declared.run.Run.{Run}
-use Rattle.runfile.specs.declared.run.Run.the-variants.{AtHeader}
-use Rattle.runfile.specs.declared.run.Taken.{Taken as Answer}
-use Rattle.runfile.specs.declared.feed.Feed.{Feed as Kept}
-use Rattle.runfile.specs.declared.feed.Feed.the-variants.{Reading}
-use Rattle.runfile.specs.declared.feed.Fed.{Fed}
-use Rattle.runfile.specs.Feeds.{Feed}
+use Rattle.rules.specs.RunFile.{Taken}
+use Rattle.rules.proofs.Determined.{only-one}
+use Rattle.runfile.specs.declared.Run.{Run}
+use Rattle.runfile.specs.declared.Taken.{Taken as Answer}
 use Rattle.runfile.specs.Runs.{Takes}
-use Rattle.runfile.specs.Calls.{Feeds, Finishes}
-
--- the answer and the buffer at exit, as the contract of the refusal line has them
-abbrev Written : ℕ → ℕ → List ℕ → ℕ → List ℕ → Type 0
-Written number refusal out r exit = (r ≡ length (refusalLine number refusal)) × (exit ≡ sets out 0 (refusalLine number refusal))
-
-pub put-refusal-determined : (number refusal : ℕ) (out : List ℕ) (r s : ℕ) (p q : List ℕ)
-    → Written number refusal out r p → Written number refusal out s q → (r ≡ s) × (p ≡ q)
-put-refusal-determined number refusal out r s p q x y = both-only x y
 
 pub take-line-determined : (run : Run) (t : Taken) (table out : List ℕ) (r s : Answer) (p q u v : List ℕ)
     → Takes run t table out r p u → Takes run t table out s q v → (r ≡ s) × (p ≡ q) × (u ≡ v)
 take-line-determined run t table out r s p q u v x y =
     (only-one (x .answer) (y .answer), only-one (x .records) (y .records), only-one (x .line) (y .line))
-
-pub start-determined : (r s : Kept) → r ≡ Reading AtHeader 0 → s ≡ Reading AtHeader 0 → r ≡ s
-start-determined r s x y = only-one x y
-
--- an answer is its three parts
-parts : Kept → ℕ → ℕ → Fed
-parts feed next written = record { feed = feed; next = next; written = written }
-
-same-parts : (a b : Fed) → a .feed ≡ b .feed → a .next ≡ b .next → a .written ≡ b .written → parts (a .feed) (a .next) (a .written) ≡ parts (b .feed) (b .next) (b .written)
-same-parts a b p q w = rw (p, q, w)
-
-pub feed-from-determined : (feed : Kept) (piece : List ℕ) (at : ℕ) (line table out : List ℕ) (r s : Fed) (k l p q u v : List ℕ)
-    → Feeds feed piece at line table out r k p u → Feeds feed piece at line table out s l q v → (r ≡ s) × (k ≡ l) × (p ≡ q) × (u ≡ v)
-unfolding parts
-feed-from-determined feed piece at line table out r s k l p q u v x y = (
-  same-parts r s (only-one (x .stands .feed-is) (y .stands .feed-is)) (only-one (x .next) (y .next)) (only-one (x .stands .written-is) (y .stands .written-is)),
-  only-one (x .held) (y .held),
-  only-one (x .stands .records) (y .stands .records),
-  only-one (x .stands .text) (y .stands .text),
-)
-
-pub finish-determined : (m : Feed) (table out : List ℕ) (r s : ℕ) (p q u v : List ℕ)
-    → Finishes m table out r p u → Finishes m table out s q v → (r ≡ s) × (p ≡ q) × (u ≡ v)
-finish-determined m table out r s p q u v x y =
-    (only-one (x .written) (y .written), only-one (x .records) (y .records), only-one (x .text) (y .text))

@@ -15,14 +15,12 @@ use Rattle.rules.specs.RunFile.{Header, Run, atHeader, Taken, accepted, startWo
 use Rattle.rules.proofs.Tests.{decided}
 use Rattle.rules.proofs.Lists.{rows-length}
 use Rattle.rules.proofs.Records.{record-length}
-use Rattle.runfile.specs.declared.run.Run.{Run as Kept}
-use Rattle.runfile.specs.declared.run.Run.the-variants.{AtHeader, AtStart, AtBeat}
-use Rattle.runfile.specs.declared.run.Taken.{Taken as Answer}
-use Rattle.runfile.specs.Headers.{testsOf}
-use Rattle.runfile.specs.Feeds.{runTests, takenLine}
-use Rattle.runfile.specs.Runs.{standing, keptOf, tableOf, keptTests, tableNext, answerOf, tableIn, textIn, Takes}
-use Rattle.runfile.proofs.Headers.{beat-passed}
-use Rattle.runfile.proofs.Pieces.{taken-is}
+use Rattle.frames.specs.Headers.{testsOf}
+use Rattle.frames.proofs.Headers.{beat-passed}
+use Rattle.runfile.specs.declared.Run.{Run as Kept}
+use Rattle.runfile.specs.declared.Run.the-variants.{AtHeader, AtStart, AtBeat}
+use Rattle.runfile.specs.declared.Taken.{Taken as Answer}
+use Rattle.runfile.specs.Runs.{standing, keptOf, tableOf, keptTests, runTests, takenLine, tableNext, answerOf, tableIn, textIn, Takes}
 
 pub refused-takes : (run : Kept) (refusal r : ℕ) (t : Taken) (table out : List ℕ) → r ≡ refusal → (r ≡ 0 → ⊥)
     → Takes run (orRefused refusal t) table out (record { refusal = r; run = run; written = 0 }) table out
@@ -44,7 +42,12 @@ tests-kept AtHeader table = refl
 tests-kept (AtStart h) table = refl
 tests-kept (AtBeat h beat) table = refl
 
--- where they are passed, a line is taken as the rules say
+-- the run of a file passes its tests
+pub taken-is : (run : Run) (line : List ℕ) → runTests run ≡ 0 → takenLine run line ≡ takeLine run line
+unfolding takenLine orRefused
+taken-is run line e = rw e
+
+-- where a kept run passes them, a line is taken as the rules say
 pub passed : (run : Kept) (table line : List ℕ) → keptTests run ≡ 0 → takenLine (standing run table) line ≡ takeLine (standing run table) line
 passed run table line e = taken-is (standing run table) line (tests-kept run table ∙ e)
 

@@ -6,11 +6,11 @@ use lib.ListN.{length, take}
 use lib.Seq.{sets}
 use Rattle.rules.specs.WholeBeat.{tableAfter}
 use Rattle.rules.specs.Text.{wordsAt}
-use Rattle.rules.specs.RunFile.{Header, Run, atHeader, atStart, atBeat, Taken, accepted, refused, startWords, beatWords}
-use Rattle.runfile.specs.declared.run.Run.{Run as Kept}
-use Rattle.runfile.specs.declared.run.Run.the-variants.{AtHeader, AtStart, AtBeat}
-use Rattle.runfile.specs.declared.run.Taken.{Taken as Answer}
-use Rattle.runfile.specs.Headers.{said, kept, testsOf}
+use Rattle.rules.specs.RunFile.{Header, Run, atHeader, atStart, atBeat, Taken, accepted, refused, startWords, beatWords, orRefused, takeLine}
+use Rattle.frames.specs.Headers.{said, kept, testsOf}
+use Rattle.runfile.specs.declared.Run.{Run as Kept}
+use Rattle.runfile.specs.declared.Run.the-variants.{AtHeader, AtStart, AtBeat}
+use Rattle.runfile.specs.declared.Taken.{Taken as Answer}
 
 -- where the run stands: the n records are the first words of the table
 unfoldable pub standing : Kept → List ℕ → Run
@@ -41,6 +41,16 @@ unfoldable pub keptTests : Kept → ℕ
 keptTests AtHeader = 0
 keptTests (AtStart h) = testsOf (said h)
 keptTests (AtBeat h beat) = testsOf (said h)
+
+-- the same of the rules' own run: that of a file passes, and any other is refused by its number
+unfoldable pub runTests : Run → ℕ
+runTests atHeader = 0
+runTests (atStart h) = testsOf h
+runTests (atBeat h beat table) = testsOf h
+
+-- one line
+unfoldable pub takenLine : Run → List ℕ → Taken
+takenLine run line = orRefused (runTests run) (takeLine run line)
 
 -- what a line answers, where the run stands at `run` before it; what it writes to the table, and what it writes out
 unfoldable pub answerOf : Kept → Taken → Answer

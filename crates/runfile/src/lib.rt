@@ -1,6 +1,188 @@
-// Run files, one line at a time, whole or in pieces (document 01, "Run files and the run program").
-pub mod header; // header.rt: line 1
-mod frame; // frame.rt: the lines of words
-pub mod output; // output.rt: the lines that are written
-pub mod run; // run.rt: one line after the other
-pub mod feed; // feed.rt: a text that comes in pieces
+// A run, one line after the other (document 01, "Run files and the run program"). The n records stand in the caller's
+// table, from its start on.
+ghost use mathlib.Core.Path.{_≡_};
+ghost use mathlib.Core.Bool.{true};
+ghost use Prim.Native.Nat.{_≤_};
+ghost use lib.ListN.{length};
+ghost use lib.Seq.{sets};
+ghost use Rattle.rules.specs.Text.{wellFormed};
+ghost use Rattle.rules.specs.RunFile.{frameDigits, beatWords, takeLine, atHeader, atStart};
+ghost use Rattle.frames.specs.Headers.{said, testsOf};
+ghost use Rattle.runfile.specs.Runs.{keptTests, answerOf, standing, recordsAfter, tableNext, takenLine, Takes};
+use frames::frame;
+use frames::header;
+use frames::header::Header;
+use frames::output;
+
+// Where a run stands between two lines: it waits for line 1, for line 2, or for the line after a beat.
+pub enum Run {
+    AtHeader,
+    AtStart(Header),
+    AtBeat(Header, u16),
+}
+
+// What a line answers: its refusal, 0 if it is accepted, the run after it, and how long its output line is.
+pub struct Taken {
+    pub refusal: u32,
+    pub run: Run,
+    pub written: usize,
+}
+
+// A run that no line 1 leads to is refused by the number of its header.
+fn run_tests(run: Run) -> u32
+    ensures { λ r. ⌜ r ≡ keptTests run ⌝ }
+{
+    match run {
+        Run::AtHeader => 0,
+        Run::AtStart(h) => header::tests_of(h),
+        Run::AtBeat(h, _) => header::tests_of(h),
+    }
+}
+
+// Line 1.
+fn take_header(line: &[u8]) -> Taken
+    ensures { λ r. ⌜ r ≡ answerOf Run.AtHeader (takeLine atHeader (now (line .entry))) ⌝ }
+{
+    let refusal = header::header_refusal(line);
+    if refusal != 0 {
+        return Taken {
+            refusal,
+            run: Run::AtHeader,
+            written: 0,
+        };
+    }
+    let h = header::header_of(line);
+    Taken {
+        refusal: 0,
+        run: Run::AtStart(h),
+        written: 0,
+    }
+}
+
+// "Line 2: beat 0000, then n records."
+fn take_start(h: Header, line: &[u8], table: &mut [u16], out: &mut [u8; 69]) -> Taken
+    requires { ⌜ (testsOf (said h) ≡ 0) × (400 ≤ length (now table)) ⌝ }
+    ensures { λ r. ⌜ Takes (Run.AtStart h) (takeLine (atStart (said h)) (now (line .entry))) (now (table .entry)) (now (out .entry)) r (now (table .exit)) (now (out .exit)) ⌝ }
+{
+    let refusal = frame::start_refusal(h, line);
+    if refusal != 0 {
+        return Taken {
+            refusal,
+            run: Run::AtStart(h),
+            written: 0,
+        };
+    }
+    let words = frame::start_words(h);
+    frame::read_words(line, words, table);
+    let written = output::put_line(h, 0, table, out);
+    Taken {
+        refusal: 0,
+        run: Run::AtBeat(h, 0),
+        written,
+    }
+}
+
+// Room for the largest table: 16·25.
+fn table_of_zeros() -> [u16; 400]
+    ensures { λ r. ⌜ 400 ≡ length r ⌝ }
+{
+    [0; 400]
+}
+
+// Room for the words of the longest line: 16·5·25.
+fn line_of_zeros() -> [u16; 2000]
+    ensures { λ r. ⌜ 2000 ≡ length r ⌝ }
+{
+    [0; 2000]
+}
+
+// Copies words to the start of a table.
+fn copy_words(words: &[u16], table: &mut [u16])
+    requires { ⌜ length (now words) ≤ length (now table) ⌝ }
+    ensures { λ _. ⌜ now (table .exit) ≡ sets (now (table .entry)) 0 (now (words .entry)) ⌝ }
+{
+    let count = words.len();
+    for j in 0..count {
+        table[j] = words[j];
+    }
+}
+
+// The records after a beat, in the place of those before it.
+fn beat_records(h: Header, sent: &[u16], table: &mut [u16])
+    requires { ⌜ (testsOf (said h) ≡ 0) × (length (now sent) ≡ beatWords (said h)) × (400 ≤ length (now table)) ⌝ }
+    ensures { λ _. ⌜ now (table .exit) ≡ sets (now (table .entry)) 0 (recordsAfter (said h) (now (table .entry)) (now (sent .entry))) ⌝ }
+{
+    let words = frame::start_words(h);
+    let mut next = table_of_zeros();
+    rack::beat(
+        h.n,
+        h.f,
+        h.c,
+        h.set,
+        &table[..words],
+        sent,
+        &mut next[..words],
+    );
+    copy_words(&next[..words], table);
+}
+
+// The same, with the words that the broken cards send on a line.
+fn next_table(h: Header, line: &[u8], table: &mut [u16])
+    requires { ⌜ (testsOf (said h) ≡ 0) × (wellFormed (frameDigits (beatWords (said h))) (now line) ≡ true) × (400 ≤ length (now table)) ⌝ }
+    ensures { λ _. ⌜ now (table .exit) ≡ sets (now (table .entry)) 0 (tableNext (said h) (now (table .entry)) (now (line .entry))) ⌝ }
+{
+    let count = frame::beat_words(h);
+    let mut sent = line_of_zeros();
+    frame::read_words(line, count, &mut sent);
+    beat_records(h, &sent[..count], table);
+}
+
+// "Each later line: its beat, then the broken cards' words for that beat."
+fn take_beat(h: Header, beat: u16, line: &[u8], table: &mut [u16], out: &mut [u8; 69]) -> Taken
+    requires { ⌜ (testsOf (said h) ≡ 0) × (400 ≤ length (now table)) ⌝ }
+    ensures { λ r. ⌜ Takes (Run.AtBeat h beat) (takeLine (standing (Run.AtBeat h beat) (now (table .entry))) (now (line .entry))) (now (table .entry)) (now (out .entry)) r (now (table .exit)) (now (out .exit)) ⌝ }
+{
+    let refusal = frame::beat_refusal(h, beat, line);
+    if refusal != 0 {
+        return Taken {
+            refusal,
+            run: Run::AtBeat(h, beat),
+            written: 0,
+        };
+    }
+    next_table(h, line, table);
+    let next = beat + 1;
+    let written = output::put_line(h, next, table, out);
+    Taken {
+        refusal: 0,
+        run: Run::AtBeat(h, next),
+        written,
+    }
+}
+
+// One line, of a table that is long enough for any rack.
+pub fn line_taken(run: Run, line: &[u8], table: &mut [u16], out: &mut [u8; 69]) -> Taken
+    requires { ⌜ 400 ≤ length (now table) ⌝ }
+    ensures { λ r. ⌜ Takes run (takenLine (standing run (now (table .entry))) (now (line .entry))) (now (table .entry)) (now (out .entry)) r (now (table .exit)) (now (out .exit)) ⌝ }
+{
+    let refusal = run_tests(run);
+    if refusal != 0 {
+        return Taken {
+            refusal,
+            run,
+            written: 0,
+        };
+    }
+    match run {
+        Run::AtHeader => take_header(line),
+        Run::AtStart(h) => take_start(h, line, table, out),
+        Run::AtBeat(h, beat) => take_beat(h, beat, line, table, out),
+    }
+}
+
+// Takes one line: it is accepted, and its output line is written, or it is refused, and nothing is.
+pub fn take_line(run: Run, line: &[u8], table: &mut [u16; 400], out: &mut [u8; 69]) -> Taken
+    ensures { λ r. ⌜ Takes run (takenLine (standing run (now (table .entry))) (now (line .entry))) (now (table .entry)) (now (out .entry)) r (now (table .exit)) (now (out .exit)) ⌝ }
+{
+    line_taken(run, line, table, out)
+}

@@ -1,0 +1,50 @@
+-- `feed::hold` meets its contract. Assumes nothing.
+use borrow.Author.Needs.{needs}
+use mathlib.Core.Path.{_≡_, sym, _∙_}
+use mathlib.Core.Logic.{⊎-elim}
+use mathlib.Core.List.{List}
+use Prim.Native.Nat.{ℕ, _-_, _≤_, _<_, min}
+use native.Mathlib.Omega.{arith}
+use lib.ListN.{length, take, drop, length-take, length-drop}
+use lib.Seq.{take-all, take-take, length-take-le}
+use Rattle.rules.proofs.Tests.{le-or-lt}
+use Rattle.feed.specs.Feeds.{longest}
+use Rattle.feed.proofs.Calls.{part-holds}
+use Rattle.feed.proofs.hold.Statement.{statement}
+use Rattle.feed.proofs.hold.Tie as tie
+
+-- the first characters of the first characters
+take-both : (a b : ℕ) (l : List ℕ) → take (min a b) l ≡ take b (take a l)
+take-both a b l = ⊎-elim
+    (λ (h : b ≤ a). let e : min a b ≡ b = omega arith in rw e (sym (take-take b a l h)))
+    (λ (h : a < b).
+    let e : min a b ≡ a = omega arith in
+    rw e (sym (take-all b (take a l) (omega (arith, length-take a l)))))
+    (le-or-lt b a)
+
+returns : tie.Need-returns
+returns c =
+    let k = c .before .before in
+    let s = k .before .before .before .before .before .before in
+    let a = s .args in
+    let start = k .before .before .before .least in
+    let count = k .before .before .least2 in
+    let rest = drop (a .from) (a .piece .now) in
+    let part = take (a .end - a .from) rest in
+    let size : length part ≡ a .end - a .from = length-take-le (a .end - a .from) rest (omega (arith, length-drop (a .from) (a .piece .now))) in
+    part-holds (a .line .now) (a .held) (s .pre .0) part _ _
+    (rw (size, count .ensures, start .ensures))
+    (k .keep .ensures ∙ rw (count .ensures, take-both (a .end - a .from) (longest - start .result) rest, start .ensures))
+
+pub hold-spec : {M : Type 1} → statement M
+hold-spec =
+    tie.close
+    (tie.spec
+    (λ c κs. search needs)
+    (λ c. search needs)
+    (λ c. search needs)
+    (λ c κs. search needs)
+    (λ c κs. omega (arith, c .before .before .before .before .before .pre .0, c .before .before .before .before .before .pre .2, c .before .before .least .ensures, c .before .least2 .ensures))
+    (λ c. omega (arith, c .before .before .before .before .before .least .ensures, c .before .before .before .before .least2 .ensures))
+    (λ c. search needs)
+    returns)

@@ -1,0 +1,112 @@
+-- What the calls on pieces do: the machine as it is kept, in a struct and in the caller's buffers. Assumes nothing.
+use Prim.Native.Nat.{ℕ, _+_, _-_, _≤_, min}
+use mathlib.Core.Path.{_≡_}
+use mathlib.Core.List.{List, [], _∷_, _++_}
+use lib.ListN.{length, take, drop}
+use lib.Seq.{sets}
+use Rattle.rules.specs.RunFile.{refusalLine}
+use Rattle.text.specs.Lines.{endFrom}
+use Rattle.runfile.specs.declared.Run.{Run as KeptRun}
+use Rattle.runfile.specs.declared.Run.the-variants.{AtHeader, AtStart, AtBeat}
+use Rattle.runfile.specs.Runs.{standing, keptOf, tableOf}
+use Rattle.feed.specs.declared.Feed.{Feed as Kept}
+use Rattle.feed.specs.declared.Feed.the-variants.{Reading, Stopped}
+use Rattle.feed.specs.declared.Fed.{Fed}
+use Rattle.feed.specs.Feeds.{Feed, reading, stopped, longest, fed, lastFed, finished}
+
+-- the number of the line that a run waits for
+unfoldable pub numberOf : KeptRun → ℕ
+numberOf AtHeader = 1
+numberOf (AtStart h) = 2
+numberOf (AtBeat h beat) = beat + 3
+
+-- where the machine stands; what was written before is no longer known
+unfoldable pub feedOf : Kept → List ℕ → List ℕ → Feed
+feedOf (Reading run held) line table = reading (standing run table) (take held line) []
+feedOf Stopped line table = stopped []
+
+-- what is kept of it beside the buffers, its records, and what it has written
+unfoldable pub keptFeed : Feed → Kept
+keptFeed (reading run held written) = Reading (keptOf run) (length held)
+keptFeed (stopped written) = Stopped
+
+unfoldable pub recordsOf : Feed → List ℕ
+recordsOf (reading run held written) = tableOf run
+recordsOf (stopped written) = []
+
+unfoldable pub writtenBy : Feed → List ℕ
+writtenBy (reading run held written) = written
+writtenBy (stopped written) = written
+
+-- the same with nothing written
+unfoldable pub goingOn : Feed → Feed
+goingOn (reading run held written) = reading run held []
+goingOn (stopped written) = stopped []
+
+-- the buffer of the line, where a part is held behind what it holds
+abbrev pub heldWith : List ℕ → ℕ → List ℕ → List ℕ
+heldWith line held part = sets line (min held longest) (take (longest - min held longest) part)
+
+-- a part is held
+pub record Holds (line : List ℕ) (held : ℕ) (part : List ℕ) (r : ℕ) (lineNext : List ℕ) : Type 0 where
+  pub count : r ≡ length (take longest (take held line ++ part))
+  pub kept : lineNext ≡ heldWith line held part
+  pub whole : take r lineNext ≡ take longest (take held line ++ part)
+
+-- the longest output line: 4 digits, 4 for each of 16 cards, and a line feed
+abbrev pub mostWritten : ℕ
+mostWritten = 69
+
+-- The machine stands at m: what is answered, and what the buffers hold. From there it goes on as m does.
+pub record Stands (m : Feed) (feed : Kept) (written : ℕ) (table out lineNext tableNext outNext : List ℕ) : Type 0 where
+  pub feed-is : feed ≡ keptFeed m
+  pub written-is : written ≡ length (writtenBy m)
+  pub short : written ≤ mostWritten
+  pub records : tableNext ≡ sets table 0 (recordsOf m)
+  pub text : outNext ≡ sets out 0 (writtenBy m)
+  pub goes-on : feedOf feed lineNext tableNext ≡ goingOn m
+
+-- a place of a piece, and from there the part up to a line's end: with its line feed, if it has one
+abbrev pub placeIn : List ℕ → ℕ → ℕ
+placeIn piece at = min at (length piece)
+
+abbrev pub nextOf : List ℕ → ℕ → ℕ
+nextOf piece end = min (end + 1) (length piece)
+
+abbrev pub partTo : List ℕ → ℕ → ℕ → List ℕ
+partTo piece from end = take (nextOf piece end - from) (drop from piece)
+
+abbrev pub lineEnd : List ℕ → ℕ → ℕ
+lineEnd piece at = endFrom piece (placeIn piece at)
+
+-- what is fed of a piece from a place on
+abbrev pub partFrom : List ℕ → ℕ → List ℕ
+partFrom piece at = partTo piece (placeIn piece at) (lineEnd piece at)
+
+unfoldable pub lineAfter : Kept → List ℕ → ℕ → List ℕ → List ℕ
+lineAfter (Reading run held) piece at line = heldWith line held (take (lineEnd piece at - placeIn piece at) (drop (placeIn piece at) piece))
+lineAfter Stopped piece at line = line
+
+-- a part of a piece is fed
+pub record Feeds (feed : Kept) (piece : List ℕ) (at : ℕ) (line table out : List ℕ) (r : Fed) (lineNext tableNext outNext : List ℕ) : Type 0 where
+  pub next : r .next ≡ nextOf piece (lineEnd piece at)
+  pub held : lineNext ≡ lineAfter feed piece at line
+  pub stands : Stands (fed (feedOf feed line table) (partFrom piece at)) (r .feed) (r .written) table out lineNext tableNext outNext
+
+-- what is written where no more lines come
+unfoldable pub missing : KeptRun → List ℕ
+missing AtHeader = refusalLine 1 10
+missing (AtStart h) = refusalLine 2 10
+missing (AtBeat h beat) = []
+
+-- the input is at its end
+pub record Finishes (m : Feed) (table out : List ℕ) (r : ℕ) (tableNext outNext : List ℕ) : Type 0 where
+  pub written : r ≡ length (finished m)
+  pub short : r ≤ mostWritten
+  pub records : tableNext ≡ sets table 0 (recordsOf (lastFed m))
+  pub text : outNext ≡ sets out 0 (finished m)
+
+-- what the calls on the parts of a text write, one after the other: each writes its own text, and the last what is left
+unfoldable pub callsWrite : Feed → List (List ℕ) → List ℕ
+callsWrite feed [] = finished feed
+callsWrite feed (part ∷ others) = writtenBy (fed feed part) ++ callsWrite (goingOn (fed feed part)) others

@@ -1,0 +1,74 @@
+-- A run over a text that comes in pieces: a machine that is fed one character after the other. Assumes nothing.
+use Prim.Native.Nat.{ℕ, _+_}
+use mathlib.Core.Bool.{cond}
+use mathlib.Core.List.{List, [], _∷_, _++_}
+use lib.Dec.{eqb, ltb}
+use lib.ListN.{length}
+use Rattle.rules.specs.Text.{lineFeed}
+use Rattle.rules.specs.RunFile.{Run, atHeader, atStart, atBeat, Taken, accepted, refused, atEnd, refusalLine}
+use Rattle.runfile.specs.Runs.{takenLine}
+
+-- the number of the line that a run waits for, "from 1"
+unfoldable pub lineOf : Run → ℕ
+lineOf atHeader = 1
+lineOf (atStart h) = 2
+lineOf (atBeat h beat table) = beat + 3
+
+-- between two characters: where the run stands, what is held of the unfinished line, and what was written;
+-- or a line was refused, and nothing more is written
+pub data Feed : Type 0 where
+  reading : Run → List ℕ → List ℕ → Feed
+  stopped : List ℕ → Feed
+
+-- as much as is held of a line: one character more than the longest line has, 4 and 4 for each of 16·5·25 words
+abbrev pub longest : ℕ
+longest = 8005
+
+-- one character more of the line
+unfoldable pub withMore : List ℕ → ℕ → List ℕ
+withMore held ch = cond (ltb (length held) longest) (held ++ (ch ∷ [])) held
+
+unfoldable pub afterLine : Run → List ℕ → Taken → Feed
+afterLine run written (accepted next text) = reading next [] (written ++ text)
+afterLine run written (refused refusal) = stopped (written ++ refusalLine (lineOf run) refusal)
+
+-- the line is at its end
+unfoldable pub ended : Run → List ℕ → List ℕ → Feed
+ended run held written = afterLine run written (takenLine run held)
+
+-- one character
+unfoldable pub fedByte : Feed → ℕ → Feed
+fedByte (reading run held written) ch =
+    cond (eqb ch lineFeed) (ended run held written) (reading run (withMore held ch) written)
+fedByte (stopped written) ch = stopped written
+
+-- a piece
+unfoldable pub fed : Feed → List ℕ → Feed
+fed feed [] = feed
+fed feed (ch ∷ rest) = fed (fedByte feed ch) rest
+
+-- the input is at its end: "What follows the last line feed is a line only if it has a character"
+unfoldable pub lastFed : Feed → Feed
+lastFed (reading run [] written) = reading run [] written
+lastFed (reading run (ch ∷ held) written) = ended run (ch ∷ held) written
+lastFed (stopped written) = stopped written
+
+unfoldable pub allWritten : Feed → List ℕ
+allWritten (reading run held written) = written ++ atEnd (lineOf run) run
+allWritten (stopped written) = written
+
+unfoldable pub finished : Feed → List ℕ
+finished feed = allWritten (lastFed feed)
+
+-- nothing is read
+abbrev pub start : Feed
+start = reading atHeader [] []
+
+-- one piece after the other
+unfoldable pub fedPieces : Feed → List (List ℕ) → Feed
+fedPieces feed [] = feed
+fedPieces feed (piece ∷ others) = fedPieces (fed feed piece) others
+
+unfoldable pub joined : List (List ℕ) → List ℕ
+joined [] = []
+joined (piece ∷ others) = piece ++ joined others

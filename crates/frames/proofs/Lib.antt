@@ -1,0 +1,5 @@
+pub mod Stores
+pub mod Headers
+pub mod Frames
+pub mod Shown
+pub mod Determined

@@ -1,0 +1,55 @@
+-- `runfile::next_table` meets its contract. Assumes nothing.
+use borrow.Author.Needs.{needs}
+use mathlib.Core.Path.{_≡_, sym, _∙_}
+use Prim.Native.Nat.{_≤_}
+use native.Mathlib.Omega.{arith}
+use lib.ListN.{length, take}
+use Rattle.rules.specs.Text.{wordsAt}
+use Rattle.text.proofs.WordsOfText.{words-length}
+use Rattle.frames.specs.Headers.{said}
+use Rattle.frames.proofs.Headers.{sent-most}
+use Rattle.runfile.proofs.Stores.{first-taken}
+use Rattle.runfile.proofs.next_table.Statement.{statement}
+use Rattle.runfile.proofs.next_table.Tie as tie
+
+small : (c : tie.After-beat-words) → c .beat-words .result ≤ 2000
+small c = let s = c .before .before .before in rw (c .beat-words .ensures) (sent-most (said (s .args .h)) (s .pre .0) .2)
+
+read-words-requires : tie.Need-read-words-requires
+read-words-requires c κs =
+    let w = c .before .before in
+    (rw (w .beat-words .ensures) (w .before .before .before .pre .1), omega (arith, small w, c .before .line-of-zeros .ensures))
+
+-- the words that are read are the first of the buffer
+first : (c : tie.After-read-words)
+    → take (c .before .before .before .beat-words .result) (c .read-words .last .1 .1 .0) ≡ wordsAt (c .before .before .before .before .before .before .args .line .now) 4 (c .before .before .before .beat-words .result)
+first c =
+    let w = c .before .before .before in
+    let line = w .before .before .before .args .line .now in
+    rw (c .read-words .ensures)
+    (first-taken _ (wordsAt line 4 (w .beat-words .result)) (w .beat-words .result) (words-length line 4 (w .beat-words .result)) (omega (arith, small w, c .before .before .line-of-zeros .ensures)))
+
+size : (c : tie.After-read-words) → length (take (c .before .before .before .beat-words .result) (c .read-words .last .1 .1 .0)) ≡ c .before .before .before .beat-words .result
+size c = rw (first c) (words-length _ 4 _)
+
+pub next-table-spec : {M : Type 1} → statement M
+next-table-spec =
+    tie.close
+    (tie.spec
+    (λ c κs. search needs)
+    (λ c κs. search needs)
+    (λ c. search needs)
+    read-words-requires
+    (λ c. omega (arith, small (c .before .before .before .before), c .before .read-words .kept .1 .1 .0, c .before .before .before .line-of-zeros .ensures))
+    (λ c. sym (size (c .before .before)))
+    (λ c κs.
+    let r = c .before .before .before in
+    let w = r .before .before .before in
+    let s = w .before .before .before in
+    (s .pre .0, size r ∙ w .beat-words .ensures, s .pre .2))
+    (λ c. search needs)
+    (λ c.
+    let k = c .before .before in
+    let r = k .before .before .before .before in
+    let w = r .before .before .before in
+    k .beat-records .ensures ∙ rw (first r, w .beat-words .ensures)))
