@@ -13,8 +13,8 @@ use Rattle.rules.specs.Text.{wordsAt}
 use Rattle.rules.specs.WholeBeat.{tableAfter}
 use Rattle.rules.specs.RunFile.{Run, atHeader, atStart, atBeat, Taken, accepted, refused, startWords, beatWords, headerRefusal, startRefusal, beatRefusal, orRefused, takeLine, atEnd, refusalLine}
 use Rattle.rules.proofs.Tests.{decided, le-or-lt}
+use Rattle.digits.proofs.WordsOfText.{words-length}
 use Rattle.text.specs.Lines.{lineLength, endFrom}
-use Rattle.text.proofs.WordsOfText.{words-length}
 use Rattle.frames.specs.Headers.{said}
 use Rattle.frames.proofs.Headers.{good, start-most}
 use Rattle.frames.proofs.Stores.{prefix-stored}

@@ -20,8 +20,8 @@ use Rattle.rules.specs.RunFile.{Header, startWords, shownWord, outputLine, refu
 use Rattle.rules.proofs.Lists.{rows-length, rows-same}
 use Rattle.rules.proofs.Records.{output-inside}
 use Rattle.rules.proofs.Shapes.{counter-passed}
-use Rattle.text.proofs.Hexadecimal.{hex-length}
-use Rattle.text.proofs.Stores.{sets-append}
+use Rattle.digits.proofs.Hexadecimal.{hex-length}
+use Rattle.digits.proofs.Stores.{sets-append}
 use Rattle.frames.specs.Headers.{testsOf}
 use Rattle.frames.proofs.Stores.{first-stored}
 

@@ -10,10 +10,10 @@ ghost use Rattle.rules.specs.RunFile.{frameDigits, beatOf, startWords, beatWord
 ghost use Rattle.rules.specs.Text.{wellFormed, wordsAt};
 ghost use Rattle.frames.specs.Headers.{said, testsOf};
 use super::header::Header;
+use digits::number_at;
+use digits::well_formed;
+use digits::words::words_at;
 use rack::broken::broken_below;
-use text::digits::number_at;
-use text::digits::well_formed;
-use text::words::words_at;
 
 // "Beats run from 1 to fffe."
 const LAST_BEAT: u32 = 65534;

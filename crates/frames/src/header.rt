@@ -4,8 +4,8 @@ ghost use mathlib.Core.Bool.{true};
 ghost use Rattle.rules.specs.RunFile.{headerDigits, headerOf, headerRefusal};
 ghost use Rattle.rules.specs.Text.{wellFormed};
 ghost use Rattle.frames.specs.Headers.{said, kept, testsOf};
-use text::digits::number_at;
-use text::digits::well_formed;
+use digits::number_at;
+use digits::well_formed;
 
 const HEADER_DIGITS: usize = 12;
 

@@ -7,10 +7,10 @@ ghost use Rattle.rules.specs.Groups.{wordOf};
 ghost use Rattle.rules.specs.RunFile.{startWords, shownWord, outputLine, refusalLine};
 ghost use Rattle.frames.specs.Headers.{said, testsOf};
 use super::header::Header;
+use digits::put_number;
+use digits::words::put_word;
 use rack::broken::is_broken;
 use rules::Vote;
-use text::digits::put_number;
-use text::words::put_word;
 
 const LINE_FEED: u8 = 10;
 

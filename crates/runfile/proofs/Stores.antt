@@ -6,7 +6,7 @@ use native.Mathlib.Numerals.{add-one}
 use native.Mathlib.Omega.{arith}
 use lib.ListN.{length, getD, take, drop, set, length-drop}
 use lib.Seq.{sets, take-suc, take-at, getD-drop, length-take-le}
-use Rattle.text.proofs.Stores.{sets-append}
+use Rattle.digits.proofs.Stores.{sets-append}
 use Rattle.frames.proofs.Stores.{prefix-stored}
 
 -- one more of a part is stored

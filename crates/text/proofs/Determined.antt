@@ -1,10 +1,9 @@
 -- Two results that a contract allows coincide, for each public routine. Assumes nothing.
 use mathlib.Core.Path.{_≡_}
-use mathlib.Core.Bool.{Bool}
 use mathlib.Core.List.{List}
 use Prim.Native.Nat.{ℕ}
 use lib.ListN.{length}
-use Rattle.rules.specs.Text.{lineAt, wellFormed}
+use Rattle.rules.specs.Text.{lineAt}
 use Rattle.rules.specs.Refusals.{writeRefusal, readRefusal, lineRefusal}
 use Rattle.rules.specs.Calls.{writeOut, readOut}
 use Rattle.rules.proofs.Determined.{only-one, both-only}
@@ -30,9 +29,6 @@ line-determined k text p q x y = only-one x y
 
 pub line-refusal-determined : (k : ℕ) (text : List ℕ) (r s : ℕ) → r ≡ lineRefusal k text → s ≡ lineRefusal k text → r ≡ s
 line-refusal-determined k text r s x y = only-one x y
-
-pub well-formed-determined : (size : ℕ) (text : List ℕ) (x y : Bool) → x ≡ wellFormed size text → y ≡ wellFormed size text → x ≡ y
-well-formed-determined size text x y p q = only-one p q
 
 pub line-end-determined : (text : List ℕ) (start x y : ℕ) → x ≡ endFrom text start → y ≡ endFrom text start → x ≡ y
 line-end-determined text start x y p q = only-one p q

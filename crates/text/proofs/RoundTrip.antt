@@ -14,9 +14,9 @@ use Rattle.rules.specs.Calls.{writeOut, readOut}
 use Rattle.rules.specs.Text.{hexOf, allDigits, wellFormed, textOf, wordsAt}
 use Rattle.rules.proofs.Tests.{and-both}
 use Rattle.rules.proofs.Shapes.{not-given}
+use Rattle.digits.proofs.Hexadecimal.{formed, digit-at, digits-all, hex-length, hex-digits, hex-of-number, number-of-hex, number-same, number-below}
+use Rattle.digits.proofs.WordsOfText.{words-length, word-in, text-length, digit-in}
 use Rattle.text.proofs.Accepted.{write-accepted}
-use Rattle.text.proofs.Hexadecimal.{formed, digit-at, digits-all, hex-length, hex-digits, hex-of-number, number-of-hex, number-same, number-below}
-use Rattle.text.proofs.WordsOfText.{words-length, word-in, text-length, digit-in}
 
 -- the text of any words is well formed
 pub written-formed : (words : List ℕ) → wellFormed (4 * length words) (textOf words) ≡ true

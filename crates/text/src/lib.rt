@@ -4,9 +4,8 @@ ghost use lib.ListN.{length};
 ghost use Rattle.rules.specs.Text.{lineAt};
 ghost use Rattle.rules.specs.Refusals.{writeRefusal, readRefusal, lineRefusal};
 ghost use Rattle.rules.specs.Calls.{writeOut, readOut};
+use digits::words;
 
-pub mod digits; // digits.rt: digits, and the numbers that they make
-pub mod words; // words.rt: words of four digits
 pub mod lines; // lines.rt: where the lines of a text stand
 
 // Refusals 1, 2, 5 and 6.

@@ -5,7 +5,7 @@ use Prim.Native.Nat.{_≤_}
 use native.Mathlib.Omega.{arith}
 use lib.ListN.{length, take}
 use Rattle.rules.specs.Text.{wordsAt}
-use Rattle.text.proofs.WordsOfText.{words-length}
+use Rattle.digits.proofs.WordsOfText.{words-length}
 use Rattle.frames.specs.Headers.{said}
 use Rattle.frames.proofs.Headers.{sent-most}
 use Rattle.runfile.proofs.Stores.{first-taken}

@@ -7,7 +7,7 @@ use lib.ListN.{length}
 use lib.Seq.{sets}
 use Rattle.rules.specs.Text.{wordsAt}
 use Rattle.rules.specs.RunFile.{startWords, startRefusal, outputLine, atBeat, takeLine}
-use Rattle.text.proofs.WordsOfText.{words-length}
+use Rattle.digits.proofs.WordsOfText.{words-length}
 use Rattle.frames.specs.Headers.{said}
 use Rattle.frames.proofs.Headers.{start-most}
 use Rattle.frames.proofs.Frames.{start-formed}

@@ -9,8 +9,8 @@ use lib.ListN.{length}
 use Rattle.rules.specs.Parameters.{recordWords}
 use Rattle.rules.specs.Text.{wellFormed}
 use Rattle.rules.specs.Calls.{readOut}
+use Rattle.digits.proofs.Hexadecimal.{formed}
 use Rattle.text.proofs.Accepted.{read-accepted}
-use Rattle.text.proofs.Hexadecimal.{formed}
 use Rattle.text.proofs.read_record.Statement.{statement}
 use Rattle.text.proofs.read_record.Tie as tie
 

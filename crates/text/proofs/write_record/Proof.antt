@@ -8,9 +8,9 @@ use lib.ListN.{length}
 use Rattle.rules.specs.Parameters.{recordWords}
 use Rattle.rules.specs.Text.{textOf}
 use Rattle.rules.specs.Calls.{writeOut}
+use Rattle.digits.proofs.Stores.{sets-all}
+use Rattle.digits.proofs.WordsOfText.{text-length}
 use Rattle.text.proofs.Accepted.{write-accepted}
-use Rattle.text.proofs.Stores.{sets-all}
-use Rattle.text.proofs.WordsOfText.{text-length}
 use Rattle.text.proofs.write_record.Statement.{statement}
 use Rattle.text.proofs.write_record.Tie as tie
 

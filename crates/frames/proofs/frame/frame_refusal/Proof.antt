@@ -3,7 +3,7 @@ use borrow.Author.Needs.{needs}
 use borrow.Author.Tests.{eq-eqb, ne-eqb, not-false}
 use mathlib.Core.Path.{sym, _∙_}
 use native.Mathlib.Omega.{arith}
-use Rattle.text.proofs.Hexadecimal.{formed}
+use Rattle.digits.proofs.Hexadecimal.{formed}
 use Rattle.frames.proofs.frame.frame_refusal.Statement.{statement}
 use Rattle.frames.proofs.frame.frame_refusal.Tie as tie
 

@@ -5,8 +5,8 @@ use native.Mathlib.Omega.{arith}
 use lib.ListN.{length, take}
 use lib.Seq.{length-take-le}
 use Rattle.rules.specs.Text.{wordsAt}
-use Rattle.text.proofs.Hexadecimal.{formed}
-use Rattle.text.proofs.WordsOfText.{words-length}
+use Rattle.digits.proofs.Hexadecimal.{formed}
+use Rattle.digits.proofs.WordsOfText.{words-length}
 use Rattle.frames.proofs.Stores.{prefix-stored}
 use Rattle.frames.proofs.frame.read_words.Statement.{statement}
 use Rattle.frames.proofs.frame.read_words.Tie as tie

@@ -7,7 +7,7 @@ use native.Mathlib.Omega.{arith}
 use lib.ListN.{length}
 use Rattle.rules.specs.Text.{wellFormed, allDigits}
 use Rattle.rules.specs.RunFile.{headerOf}
-use Rattle.text.proofs.Hexadecimal.{formed}
+use Rattle.digits.proofs.Hexadecimal.{formed}
 use Rattle.frames.proofs.header.header_of.Statement.{statement}
 use Rattle.frames.proofs.header.header_of.Tie as tie
 

@@ -6,8 +6,8 @@ use native.Mathlib.Omega.{arith}
 use lib.ListN.{length}
 use lib.Seq.{sets}
 use Rattle.rules.specs.Counting.{rows}
-use Rattle.text.proofs.Hexadecimal.{hex-length}
-use Rattle.text.proofs.Stores.{rows-more}
+use Rattle.digits.proofs.Hexadecimal.{hex-length}
+use Rattle.digits.proofs.Stores.{rows-more}
 use Rattle.frames.specs.Headers.{said}
 use Rattle.frames.proofs.Headers.{good}
 use Rattle.frames.proofs.Shown.{shownText, line-length, line-stored}

@@ -1,13 +1,13 @@
--- `text::digits::number_at` meets its contract: eight digits fit 32 bits. Assumes nothing.
+-- `digits::number_at` meets its contract: eight digits fit 32 bits. Assumes nothing.
 use borrow.Author.Needs.{needs}
 use mathlib.Core.Path.{_≡_, refl}
 use Prim.Native.Nat.{_+_, _*_, _-_, _^_, _≤_, _<_}
 use native.Mathlib.Omega.{arith}
 use lib.ListN.{getD}
 use Rattle.rules.specs.Text.{valueOf, numberAt}
-use Rattle.text.proofs.Hexadecimal.{digit-at, number-more, number-within}
-use Rattle.text.proofs.digits.number_at.Statement.{statement}
-use Rattle.text.proofs.digits.number_at.Tie as tie
+use Rattle.digits.proofs.Hexadecimal.{digit-at, number-more, number-within}
+use Rattle.digits.proofs.number_at.Statement.{statement}
+use Rattle.digits.proofs.number_at.Tie as tie
 
 abbrev Inv-loop : tie.InvT-loop
 Inv-loop text at digits number₀ i₀ number i = (i ≤ digits) × (number ≡ numberAt text at i)

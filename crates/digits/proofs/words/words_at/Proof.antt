@@ -1,4 +1,4 @@
--- `text::words::words_at` meets its contract: the buffer holds the words passed. Assumes nothing.
+-- `digits::words::words_at` meets its contract: the buffer holds the words passed. Assumes nothing.
 use borrow.Author.Needs.{needs}
 use mathlib.Core.Path.{_≡_, refl, sym, _∙_}
 use mathlib.Core.List.{List, [], _∷_}
@@ -8,10 +8,10 @@ use lib.ListN.{length, length-set}
 use lib.Seq.{sets}
 use Rattle.rules.specs.Counting.{rows}
 use Rattle.rules.specs.Text.{numberAt, wordsAt}
-use Rattle.text.proofs.Stores.{rows-more, sets-all}
-use Rattle.text.proofs.WordsOfText.{words-length}
-use Rattle.text.proofs.words.words_at.Statement.{statement}
-use Rattle.text.proofs.words.words_at.Tie as tie
+use Rattle.digits.proofs.Stores.{rows-more, sets-all}
+use Rattle.digits.proofs.WordsOfText.{words-length}
+use Rattle.digits.proofs.words.words_at.Statement.{statement}
+use Rattle.digits.proofs.words.words_at.Tie as tie
 
 abbrev wordIn : List ℕ → ℕ → ℕ → List ℕ
 wordIn text at j = numberAt text (at + 4 * j) 4 ∷ []

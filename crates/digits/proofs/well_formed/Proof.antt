@@ -1,4 +1,4 @@
--- `text::digits::well_formed` meets its contract: what is left to look at decides. Assumes nothing.
+-- `digits::well_formed` meets its contract: what is left to look at decides. Assumes nothing.
 use borrow.Author.Needs.{needs}
 use borrow.Author.Tests.{eq-eqb, ne-eqb, not-true, not-false}
 use mathlib.Core.Path.{_≡_, refl, sym, _∙_}
@@ -7,9 +7,9 @@ use Prim.Native.Nat.{_-_, _≤_}
 use native.Mathlib.Omega.{arith}
 use lib.ListN.{getD, drop, drop-of-length-le}
 use Rattle.rules.specs.Text.{isDigit, allDigits, wellFormed}
-use Rattle.text.proofs.Hexadecimal.{digits-from}
-use Rattle.text.proofs.digits.well_formed.Statement.{statement}
-use Rattle.text.proofs.digits.well_formed.Tie as tie
+use Rattle.digits.proofs.Hexadecimal.{digits-from}
+use Rattle.digits.proofs.well_formed.Statement.{statement}
+use Rattle.digits.proofs.well_formed.Tie as tie
 
 abbrev Inv-loop : tie.InvT-loop
 Inv-loop text size i₀ i = (i ≤ size) × (allDigits text ≡ allDigits (drop i text))

@@ -5,8 +5,8 @@ ghost use Prim.Native.Nat.{_+_, _*_, _≤_};
 ghost use lib.ListN.{length};
 ghost use lib.Seq.{sets};
 ghost use Rattle.rules.specs.Text.{hexOf, numberAt, allDigits, textOf, wordsAt};
-use super::digits::number_at;
-use super::digits::put_number;
+use super::number_at;
+use super::put_number;
 
 // The word whose four digits stand at a place.
 pub fn word_at(text: &[u8], at: usize) -> u16

@@ -1,9 +1,9 @@
--- `text::words::word_at` meets its contract: four digits fit 16 bits. Assumes nothing.
+-- `digits::words::word_at` meets its contract: four digits fit 16 bits. Assumes nothing.
 use borrow.Author.Needs.{needs}
 use native.Mathlib.Omega.{arith}
-use Rattle.text.proofs.Hexadecimal.{number-below}
-use Rattle.text.proofs.words.word_at.Statement.{statement}
-use Rattle.text.proofs.words.word_at.Tie as tie
+use Rattle.digits.proofs.Hexadecimal.{number-below}
+use Rattle.digits.proofs.words.word_at.Statement.{statement}
+use Rattle.digits.proofs.words.word_at.Tie as tie
 
 pub word-at-spec : {M : Type 1} → statement M
 word-at-spec =

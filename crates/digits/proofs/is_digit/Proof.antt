@@ -1,9 +1,9 @@
--- `text::digits::is_digit` meets its contract. Assumes nothing.
+-- `digits::is_digit` meets its contract. Assumes nothing.
 use borrow.Author.Needs.{needs}
 use mathlib.Core.Path.{sym, _∙_}
 use Rattle.rules.specs.Text.{isDigit}
-use Rattle.text.proofs.digits.is_digit.Statement.{statement}
-use Rattle.text.proofs.digits.is_digit.Tie as tie
+use Rattle.digits.proofs.is_digit.Statement.{statement}
+use Rattle.digits.proofs.is_digit.Tie as tie
 
 returns : tie.Need-returns
 unfolding isDigit

@@ -1,12 +1,12 @@
--- `text::digits::value_of` meets its contract. Assumes nothing.
+-- `digits::value_of` meets its contract. Assumes nothing.
 use borrow.Author.Needs.{needs}
 use borrow.Author.Tests.{le-leb, lt-leb}
 use mathlib.Core.Logic.{⊎-elim}
 use native.Mathlib.Omega.{arith}
 use Rattle.rules.specs.Text.{valueOf}
-use Rattle.text.proofs.Hexadecimal.{digit-cases}
-use Rattle.text.proofs.digits.value_of.Statement.{statement}
-use Rattle.text.proofs.digits.value_of.Tie as tie
+use Rattle.digits.proofs.Hexadecimal.{digit-cases}
+use Rattle.digits.proofs.value_of.Statement.{statement}
+use Rattle.digits.proofs.value_of.Tie as tie
 
 returns : tie.Need-returns
 unfolding valueOf

@@ -6,7 +6,7 @@ use native.Mathlib.Omega.{arith}
 use lib.ListN.{length, getD}
 use Rattle.rules.specs.Text.{hexOf, numberAt, textOf, wordsAt}
 use Rattle.rules.proofs.Lists.{rows-length, rows-at, tabulate-length, tabulate-at}
-use Rattle.text.proofs.Hexadecimal.{hex-length}
+use Rattle.digits.proofs.Hexadecimal.{hex-length}
 
 pub words-length : (text : List ℕ) (at k : ℕ) → length (wordsAt text at k) ≡ k
 unfolding wordsAt

@@ -1,4 +1,5 @@
-// Hexadecimal digits, and the numbers that they make: "lower case, high digit first".
+// Hexadecimal digits, and the numbers that they make: "lower case, high digit first" (document 01, "Run files and the run
+// program").
 ghost use mathlib.Core.Path.{_≡_};
 ghost use mathlib.Core.Bool.{true, _&&_};
 ghost use Prim.Native.Nat.{_+_, _*_, _%_, _<_, _≤_};
@@ -6,6 +7,8 @@ ghost use lib.Dec.{leb};
 ghost use lib.ListN.{length};
 ghost use lib.Seq.{sets};
 ghost use Rattle.rules.specs.Text.{digitOf, isDigit, valueOf, hexOf, numberAt, allDigits, wellFormed};
+
+pub mod words; // words.rt: words of four digits
 
 // A digit's value is its distance from '0', or from ten before 'a'.
 const DECIMAL: u8 = b'0';

@@ -1,4 +1,4 @@
--- `text::words::put_words` meets its contract: the buffer holds the text of the words passed. Assumes nothing.
+-- `digits::words::put_words` meets its contract: the buffer holds the text of the words passed. Assumes nothing.
 use borrow.Author.Needs.{needs}
 use mathlib.Core.Path.{_≡_, refl, _∙_}
 use mathlib.Core.List.{List}
@@ -8,10 +8,10 @@ use lib.ListN.{length, getD}
 use lib.Seq.{sets}
 use Rattle.rules.specs.Counting.{rows}
 use Rattle.rules.specs.Text.{hexOf, textOf}
-use Rattle.text.proofs.Hexadecimal.{hex-length}
-use Rattle.text.proofs.Stores.{rows-more}
-use Rattle.text.proofs.words.put_words.Statement.{statement}
-use Rattle.text.proofs.words.put_words.Tie as tie
+use Rattle.digits.proofs.Hexadecimal.{hex-length}
+use Rattle.digits.proofs.Stores.{rows-more}
+use Rattle.digits.proofs.words.put_words.Statement.{statement}
+use Rattle.digits.proofs.words.put_words.Tie as tie
 
 abbrev textFrom : List ℕ → ℕ → List ℕ
 textFrom words j = hexOf 4 (getD words j 0)

@@ -1,0 +1,4 @@
+pub mod Hexadecimal
+pub mod Stores
+pub mod WordsOfText
+pub mod Determined
