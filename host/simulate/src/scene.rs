@@ -32,6 +32,8 @@ pub struct Scene {
     paths: Vec<Vec<Level>>,
     /// The newest table first. A broken card's record is what it would hold if it were sound.
     tables: VecDeque<Vec<u16>>,
+    /// What the broken cards told on the last beat, in the order of the paper's whole beat.
+    told: Vec<u16>,
 }
 
 impl Scene {
@@ -44,6 +46,7 @@ impl Scene {
             cooldown,
             paths: cards.map(|card| Level::path(shape, card)).collect(),
             tables: VecDeque::new(),
+            told: Vec::new(),
         };
         scene.hold(start);
         scene
@@ -80,12 +83,21 @@ impl Scene {
         &table[card * self.shape.words()..][..self.shape.words()]
     }
 
+    /// The record that a broken card told a listener on the last beat.
+    pub fn told(&self, liar: usize, listener: usize) -> &[u16] {
+        let liars_before = self.broken_cards().filter(|&other| other < liar).count();
+        let place = listener * self.broken_cards().count() + liars_before;
+        &self.told[place * self.shape.words()..][..self.shape.words()]
+    }
+
+    /// The count that a record shows.
+    pub fn shown(&self, record: &[u16]) -> Option<u16> {
+        Level::outermost(self.shape).output(record)
+    }
+
     /// The count that all sound cards show, if they show one same count.
     pub fn common_count(&self) -> Option<u16> {
-        let outermost = Level::outermost(self.shape);
-        let mut shown = self
-            .sound_cards()
-            .map(|card| outermost.output(self.record(card)));
+        let mut shown = self.sound_cards().map(|card| self.shown(self.record(card)));
         let first = shown.next().flatten();
         first.filter(|_| shown.all(|count| count == first))
     }
@@ -93,20 +105,21 @@ impl Scene {
     /// One beat.
     pub fn advance(&mut self, adversary: &mut dyn Adversary) {
         adversary.prepare(self);
-        let mut words = Vec::new();
+        let mut told = Vec::new();
         for listener in self.cards() {
             for liar in self.broken_cards() {
-                words.extend(adversary.tell(self, liar, listener));
+                told.extend(adversary.tell(self, liar, listener));
             }
         }
         let now = &self.tables[0];
-        let mut next = self.shape.after_beat(self.broken, now, &words);
+        let mut next = self.shape.after_beat(self.broken, now, &told);
         let Shape { n, f, c } = self.shape;
         for card in self.broken_cards() {
             let record = &mut next[card * self.shape.words()..][..self.shape.words()];
             card::step(n, f, c, card as u32, now, record).expect("a table is within the rules");
         }
         self.beat += 1;
+        self.told = told;
         self.hold(next);
     }
 

@@ -165,3 +165,30 @@ fn the_drifting_counts_are_one_behind() {
         assert_eq!(undone, telling.truth());
     });
 }
+
+#[test]
+fn what_each_listener_was_told_is_kept() {
+    let told_by = |name, wanted: fn(&Telling) -> Vec<u16>| {
+        let start = Start::AnyWords.table(SHAPE, &mut Random::new(5));
+        let mut scene = Scene::new(SHAPE, BROKEN, start.clone(), RIGHT);
+        let before = Scene::new(SHAPE, BROKEN, start, RIGHT);
+        scene.advance(&mut Liars::new(vec![strategy(name)], Random::new(6)));
+        for liar in scene.broken_cards() {
+            for listener in scene.cards() {
+                let telling = Telling {
+                    scene: &before,
+                    liar,
+                    listener,
+                };
+                assert_eq!(scene.told(liar, listener), wanted(&telling));
+            }
+        }
+    };
+    // Differs between the listeners, and differs between the liars.
+    told_by("echo", |telling| {
+        telling.scene.record(telling.listener).to_vec()
+    });
+    told_by("drift", |telling| {
+        moved(telling.scene.path(telling.liar), telling.truth(), -1)
+    });
+}
