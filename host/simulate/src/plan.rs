@@ -1,5 +1,7 @@
 //! One run from its seed: the shape, the start, the broken cards and how they lie.
 
+use std::collections::BTreeSet;
+
 use second::count;
 use second::generate::Shape;
 use second::params;
@@ -12,6 +14,9 @@ use crate::liars::Liars;
 use crate::scene::{Adversary, Scene};
 use crate::start::Start;
 use crate::strategy::{Strategy, STRATEGIES};
+
+/// The counts of each card: none or one of a sound card, any number of a broken one.
+pub type Row = Vec<BTreeSet<u16>>;
 
 /// How the broken cards of a run lie.
 #[derive(Clone, Copy)]
@@ -113,5 +118,23 @@ impl Plan {
             }
         }
         since
+    }
+
+    /// The counts after 0 to so many beats: of a sound card the one that it shows, of a broken
+    /// card all that it then tells sound cards.
+    pub fn shown(mut self, cooldown: Cooldown, beats: usize) -> Vec<Row> {
+        let mut scene = Scene::new(self.shape, self.broken, self.table, cooldown);
+        let mut rows = Vec::new();
+        while scene.beat <= beats {
+            let held = scene.cards().map(|card| scene.shown(scene.record(card)));
+            let mut row: Row = held.map(|count| count.into_iter().collect()).collect();
+            scene.advance(self.adversary.as_mut());
+            for liar in scene.broken_cards() {
+                let told = |listener| scene.shown(scene.told(liar, listener));
+                row[liar] = scene.sound_cards().filter_map(told).collect();
+            }
+            rows.push(row);
+        }
+        rows
     }
 }
