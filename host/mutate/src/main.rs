@@ -1,0 +1,109 @@
+//! The program `mutate`: see `command`.
+
+use std::env;
+use std::fs;
+use std::io;
+use std::path::{Path, PathBuf};
+use std::process::ExitCode;
+use std::thread;
+
+use mutate::choice::Choice;
+use mutate::command::{request, Request, USAGE};
+use mutate::copies::Workplace;
+use mutate::ending::Ending;
+use mutate::equivalents::{self, Equivalent};
+use mutate::mutant::{mutants, Mutant};
+use mutate::report::{line, summary, unmatched};
+use mutate::repository::libraries;
+use mutate::run::{Outcome, Run};
+
+fn main() -> ExitCode {
+    let arguments: Vec<String> = env::args().skip(1).collect();
+    let request = request(&arguments).ok_or_else(|| USAGE.to_string());
+    match request.and_then(|request| answer(&request)) {
+        Ok(true) => ExitCode::SUCCESS,
+        Ok(false) => ExitCode::FAILURE,
+        Err(message) => {
+            eprintln!("{message}");
+            ExitCode::FAILURE
+        }
+    }
+}
+
+fn root() -> PathBuf {
+    Path::new(env!("CARGO_MANIFEST_DIR")).join("../..")
+}
+
+fn said(error: io::Error) -> String {
+    error.to_string()
+}
+
+/// Is every survivor listed, and is there every mutant that is listed?
+fn answer(request: &Request) -> Result<bool, String> {
+    let crates = asked(&request.crates)?;
+    let mut mutants_of_all = Vec::new();
+    for library in &crates {
+        mutants_of_all.extend(mutants(&root(), library).map_err(said)?);
+    }
+    let chosen = request.choice.of(&mutants_of_all);
+    if request.list {
+        chosen
+            .iter()
+            .for_each(|(number, mutant)| println!("{number:5} {}", mutant.name()));
+        return Ok(true);
+    }
+    let document = fs::read_to_string(root().join("docs/MUTATION.md")).map_err(said)?;
+    let equivalents = equivalents::parse(&document)?;
+    let chosen: Vec<&Mutant> = chosen.into_iter().map(|(_, mutant)| mutant).collect();
+    let outcomes = tried(request, &crates, &chosen, &equivalents).map_err(said)?;
+    let unmatched = unmatched(&equivalents, &crates, &mutants_of_all);
+    print!("{}", summary(&outcomes, &unmatched));
+    let survived = outcomes
+        .iter()
+        .any(|outcome| outcome.ending == Ending::Unexplained);
+    Ok(!survived && unmatched.is_empty())
+}
+
+/// The libraries named, or all of them.
+fn asked(names: &[String]) -> Result<Vec<String>, String> {
+    let libraries = libraries(&root()).map_err(said)?;
+    if let Some(unknown) = names.iter().find(|name| !libraries.contains(name)) {
+        return Err(format!("{unknown} is no library that crates.txt lists"));
+    }
+    let wanted = |library: &String| names.is_empty() || names.contains(library);
+    Ok(libraries.into_iter().filter(wanted).collect())
+}
+
+fn tried<'m>(
+    request: &Request,
+    crates: &[String],
+    chosen: &[&'m Mutant],
+    equivalents: &[Equivalent],
+) -> io::Result<Vec<Outcome<'m>>> {
+    let run = Run {
+        place: Workplace::new(&root())?,
+        jobs: request
+            .jobs
+            .map_or_else(|| thread::available_parallelism().map(usize::from), Ok)?,
+        equivalents,
+    };
+    let aloud = matches!(request.choice, Choice::Numbered(_) | Choice::Named(_));
+    let tell = |outcome: &Outcome| {
+        if aloud {
+            print!("{}", outcome.printed);
+        }
+        print!("{}", line(outcome));
+    };
+    let mut outcomes = Vec::new();
+    for library in crates {
+        let mutants: Vec<&Mutant> = chosen
+            .iter()
+            .copied()
+            .filter(|mutant| mutant.library == *library)
+            .collect();
+        if !mutants.is_empty() {
+            outcomes.extend(run.of_crate(library, &mutants, tell)?);
+        }
+    }
+    Ok(outcomes)
+}

@@ -1,0 +1,62 @@
+//! What the prover says of a crate.
+
+use std::io;
+use std::path::Path;
+use std::process::{Command, Output};
+
+#[derive(Clone, Copy, Debug, PartialEq, Eq)]
+pub enum Verdict {
+    /// It is a program, and it is not proved.
+    Refused,
+    /// It is proved.
+    Survived,
+    /// The compiler refuses it before anything is to be proved.
+    NotAProgram,
+    /// The prover could not tell, or not in time.
+    NoVerdict,
+}
+
+/// In seconds. No crate takes as long from nothing.
+const TIME_LIMIT: &str = "120";
+
+/// Proves a crate as it stands, and whatever it depends on. An error has what the prover printed.
+pub fn prove(folder: &Path, library: &str) -> io::Result<()> {
+    let output = Command::new("rt")
+        .args(["dev", library])
+        .current_dir(folder)
+        .output()?;
+    if output.status.success() {
+        return Ok(());
+    }
+    let told = format!(
+        "{library} is not proved as it stands:\n{}",
+        printed(&output)
+    );
+    Err(io::Error::new(io::ErrorKind::Other, told))
+}
+
+/// Asks about a crate whose dependencies are proved.
+pub fn ask(folder: &Path, library: &str) -> io::Result<(Verdict, String)> {
+    let mut command = Command::new("timeout");
+    command.args(["--kill-after=5", TIME_LIMIT, "rt", "dev", library]);
+    let output = command.current_dir(folder).output()?;
+    let text = printed(&output);
+    Ok((verdict(output.status.code(), &text), text))
+}
+
+fn printed(output: &Output) -> String {
+    [&output.stdout, &output.stderr]
+        .map(|bytes| String::from_utf8_lossy(bytes))
+        .concat()
+}
+
+/// By the exit status and what was printed.
+pub fn verdict(status: Option<i32>, printed: &str) -> Verdict {
+    let has_line = |start: &str| printed.lines().any(|line| line.starts_with(start));
+    match status {
+        Some(0) if has_line("logic=proved") => Verdict::Survived,
+        Some(1) if has_line("logic=not-proved") => Verdict::Refused,
+        Some(1) if printed.contains(": error[") => Verdict::NotAProgram,
+        _ => Verdict::NoVerdict,
+    }
+}

@@ -1,0 +1,98 @@
+//! What is printed of a run.
+
+use crate::ending::Ending;
+use crate::equivalents::Equivalent;
+use crate::mutant::Mutant;
+use crate::run::Outcome;
+
+/// One mutant that has ended.
+pub fn line(outcome: &Outcome) -> String {
+    let (word, seconds) = (outcome.ending.word(), outcome.took.as_secs_f64());
+    format!("{word:<13} {seconds:5.1} s  {}\n", outcome.mutant.name())
+}
+
+/// The figures, and what has to be looked at.
+pub fn summary(outcomes: &[Outcome], unmatched: &[&str]) -> String {
+    let with = |wanted: Ending| -> Vec<String> {
+        let found = outcomes.iter().filter(|outcome| outcome.ending == wanted);
+        found.map(|outcome| outcome.mutant.lasting_name()).collect()
+    };
+    let unmatched: Vec<String> = unmatched.iter().map(|name| name.to_string()).collect();
+    [
+        "\n".to_string(),
+        table(outcomes),
+        section("No verdict:", &with(Ending::NoVerdict)),
+        section(
+            "Survived, and not listed as equivalent:",
+            &with(Ending::Unexplained),
+        ),
+        section("Listed as equivalent, and no mutant:", &unmatched),
+    ]
+    .concat()
+}
+
+fn section(heading: &str, names: &[String]) -> String {
+    if names.is_empty() {
+        return String::new();
+    }
+    format!("\n{heading}\n  {}\n", names.join("\n  "))
+}
+
+/// A row for each crate, and one for all of them.
+pub fn table(outcomes: &[Outcome]) -> String {
+    let mut libraries: Vec<&str> = outcomes
+        .iter()
+        .map(|outcome| outcome.mutant.library.as_str())
+        .collect();
+    libraries.dedup();
+    let mut text =
+        "| crate | mutants | refused | equivalent | no verdict | unexplained | not a program |\n"
+            .to_string();
+    text += "|---|---|---|---|---|---|---|\n";
+    for library in libraries {
+        let of_library = outcomes
+            .iter()
+            .filter(|outcome| outcome.mutant.library == library);
+        text += &row(library, of_library.map(|outcome| outcome.ending).collect());
+    }
+    text + &row(
+        "all",
+        outcomes.iter().map(|outcome| outcome.ending).collect(),
+    )
+}
+
+/// What is no program is no mutant.
+fn row(name: &str, endings: Vec<Ending>) -> String {
+    let count = |wanted: Ending| endings.iter().filter(|ending| **ending == wanted).count();
+    let not_programs = count(Ending::NotAProgram);
+    let counts = [
+        endings.len() - not_programs,
+        count(Ending::Refused),
+        count(Ending::Equivalent),
+        count(Ending::NoVerdict),
+        count(Ending::Unexplained),
+        not_programs,
+    ];
+    format!(
+        "| {name} | {} |\n",
+        counts.map(|count| count.to_string()).join(" | ")
+    )
+}
+
+/// The listed names that belong to the crates and that no mutant of theirs has.
+pub fn unmatched<'a>(
+    equivalents: &'a [Equivalent],
+    crates: &[String],
+    mutants: &[Mutant],
+) -> Vec<&'a str> {
+    let known: Vec<String> = mutants.iter().map(Mutant::lasting_name).collect();
+    let asked = |name: &str| {
+        crates
+            .iter()
+            .any(|library| name.starts_with(&format!("{library}/")))
+    };
+    let listed = equivalents.iter().map(|listed| listed.name.as_str());
+    listed
+        .filter(|name| asked(name) && !known.iter().any(|known| known == name))
+        .collect()
+}
