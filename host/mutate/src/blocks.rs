@@ -26,13 +26,11 @@ impl Code<'_> {
         let heads = self.heads(body);
         let sort = |open: usize| match heads.get(&open) {
             Some(&"match") => Braces::Arms,
-            None if self.names(open - 1) => Braces::Fields,
+            None if open > body.start && self.names(open - 1) => Braces::Fields,
             _ => Braces::Block,
         };
-        let inner = body.clone().skip(1).filter(|place| self.at(*place) == "{");
-        let inner = inner.map(|open| (open, sort(open)));
-        let outer = Some((body.start, Braces::Block)).filter(|_| self.at(body.start) == "{");
-        outer.into_iter().chain(inner).collect()
+        let opens = body.clone().filter(|place| self.at(*place) == "{");
+        opens.map(|open| (open, sort(open))).collect()
     }
 
     /// The brace after the head of each `if`, `while`, `for` and `match`: a head holds no struct that is made.
@@ -67,13 +65,11 @@ impl Code<'_> {
         found
     }
 
+    /// Past its semicolon, or past its block where it ends with one.
     fn statement_end(&self, start: usize, close: usize) -> usize {
-        let ends_with_block =
-            LOOPS.contains(&self.at(start)) || ["if", "match", "{"].contains(&self.at(start));
-        let end = if ends_with_block {
-            self.block_end(start, close)
-        } else {
-            None
+        let end = match self.at(start) {
+            "if" | "match" | "for" | "while" | "loop" | "{" => self.block_end(start, close),
+            _ => None,
         };
         match end {
             Some(end) if self.at(end) != ";" => end,

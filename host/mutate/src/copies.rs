@@ -17,6 +17,7 @@ pub struct Workplace {
 impl Workplace {
     pub fn new(root: &Path) -> io::Result<Workplace> {
         let folder = env::temp_dir().join(format!("mutate-{}", process::id()));
+        fs::create_dir(&folder)?;
         let place = Workplace { folder };
         let sound = place.sound();
         mirror(&root.join("crates"), &sound.join("crates"), copy)?;

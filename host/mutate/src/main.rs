@@ -52,11 +52,10 @@ fn answer(request: &Request) -> Result<bool, String> {
             .for_each(|(number, mutant)| println!("{number:5} {}", mutant.name()));
         return Ok(true);
     }
-    let document = fs::read_to_string(root().join("docs/MUTATION.md")).map_err(said)?;
-    let equivalents = equivalents::parse(&document)?;
+    let equivalents = listed()?;
     let chosen: Vec<&Mutant> = chosen.into_iter().map(|(_, mutant)| mutant).collect();
     let outcomes = tried(request, &crates, &chosen, &equivalents).map_err(said)?;
-    let unmatched = unmatched(&equivalents, &crates, &mutants_of_all);
+    let unmatched = unmatched(&equivalents, &request.crates, &mutants_of_all);
     print!("{}", summary(&outcomes, &unmatched));
     let survived = outcomes
         .iter()
@@ -74,6 +73,13 @@ fn asked(names: &[String]) -> Result<Vec<String>, String> {
     Ok(libraries.into_iter().filter(wanted).collect())
 }
 
+fn listed() -> Result<Vec<Equivalent>, String> {
+    let told = |message: String| format!("docs/MUTATION.md: {message}");
+    let document = fs::read_to_string(root().join("docs/MUTATION.md"));
+    equivalents::parse(&document.map_err(|error| told(error.to_string()))?).map_err(told)
+}
+
+/// The crates one after the other: each is proved, and then its mutants are tried.
 fn tried<'m>(
     request: &Request,
     crates: &[String],
@@ -102,6 +108,7 @@ fn tried<'m>(
             .filter(|mutant| mutant.library == *library)
             .collect();
         if !mutants.is_empty() {
+            println!("{library}: {} mutants", mutants.len());
             outcomes.extend(run.of_crate(library, &mutants, tell)?);
         }
     }

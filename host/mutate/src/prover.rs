@@ -21,17 +21,15 @@ const TIME_LIMIT: &str = "120";
 
 /// Proves a crate as it stands, and whatever it depends on. An error has what the prover printed.
 pub fn prove(folder: &Path, library: &str) -> io::Result<()> {
-    let output = Command::new("rt")
-        .args(["dev", library])
-        .current_dir(folder)
-        .output()?;
-    if output.status.success() {
-        return Ok(());
-    }
-    let told = format!(
-        "{library} is not proved as it stands:\n{}",
-        printed(&output)
-    );
+    let mut command = Command::new("rt");
+    let told = match command.args(["dev", library]).current_dir(folder).output() {
+        Ok(output) if output.status.success() => return Ok(()),
+        Ok(output) => format!(
+            "{library} is not proved as it stands:\n{}",
+            printed(&output)
+        ),
+        Err(error) => format!("rt, the prover's command, cannot be started: {error}"),
+    };
     Err(io::Error::new(io::ErrorKind::Other, told))
 }
 

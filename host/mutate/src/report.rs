@@ -1,5 +1,7 @@
 //! What is printed of a run.
 
+use std::collections::HashSet;
+
 use crate::ending::Ending;
 use crate::equivalents::Equivalent;
 use crate::mutant::Mutant;
@@ -79,20 +81,19 @@ fn row(name: &str, endings: Vec<Ending>) -> String {
     )
 }
 
-/// The listed names that belong to the crates and that no mutant of theirs has.
+/// The listed names of the crates, of all where none is named, that no mutant has.
 pub fn unmatched<'a>(
     equivalents: &'a [Equivalent],
     crates: &[String],
     mutants: &[Mutant],
 ) -> Vec<&'a str> {
-    let known: Vec<String> = mutants.iter().map(Mutant::lasting_name).collect();
-    let asked = |name: &str| {
+    let known: HashSet<String> = mutants.iter().map(Mutant::lasting_name).collect();
+    let of_crate = |name: &str| {
         crates
             .iter()
             .any(|library| name.starts_with(&format!("{library}/")))
     };
     let listed = equivalents.iter().map(|listed| listed.name.as_str());
-    listed
-        .filter(|name| asked(name) && !known.iter().any(|known| known == name))
-        .collect()
+    let asked = listed.filter(|name| crates.is_empty() || of_crate(name));
+    asked.filter(|name| !known.contains(*name)).collect()
 }

@@ -51,10 +51,13 @@ impl Run<'_> {
                 });
             }
             drop(sender);
-            let told = ended
-                .into_iter()
-                .map(|outcome| outcome.map(|outcome| (tell(&outcome), outcome).1));
-            told.collect()
+            let mut outcomes = Vec::new();
+            for outcome in ended {
+                let outcome = outcome?;
+                tell(&outcome);
+                outcomes.push(outcome);
+            }
+            Ok(outcomes)
         })
     }
 

@@ -5,7 +5,9 @@ use std::fs;
 use std::path::{Path, PathBuf};
 
 use mutate::choice::Choice;
+use mutate::equivalents;
 use mutate::mutant::{mutants, Mutant};
+use mutate::report::unmatched;
 use mutate::repository::libraries;
 
 fn root() -> PathBuf {
@@ -115,6 +117,13 @@ fn comments_contracts_and_declarations_stay() {
             mutant.name()
         );
     }
+}
+
+#[test]
+fn every_mutant_that_is_listed_as_equivalent_exists() {
+    let document = fs::read_to_string(root().join("docs/MUTATION.md")).unwrap();
+    let equivalents = equivalents::parse(&document).unwrap();
+    assert_eq!(unmatched(&equivalents, &[], &all()), Vec::<&str>::new());
 }
 
 #[test]
