@@ -19,15 +19,7 @@ impl Workplace {
         let folder = env::temp_dir().join(format!("mutate-{}", process::id()));
         fs::create_dir(&folder)?;
         let place = Workplace { folder };
-        let sound = place.sound();
-        mirror(&root.join("crates"), &sound.join("crates"), copy)?;
-        copy(&root.join("crates.txt"), &sound.join("crates.txt"))?;
-        // What was proved is taken over, and is not proved again.
-        for proved in ["target/rlib", "target/stamp"] {
-            if root.join(proved).exists() {
-                mirror(&root.join(proved), &sound.join(proved), copy)?;
-            }
-        }
+        duplicate(root, &place.sound(), copy)?;
         Ok(place)
     }
 
@@ -44,11 +36,7 @@ impl Workplace {
     pub fn bench(&self, library: &str, number: usize) -> io::Result<Bench> {
         let sound = self.sound();
         let folder = self.folder.join(format!("{library}-{number}"));
-        mirror(&sound.join("crates"), &folder.join("crates"), copy)?;
-        copy(&sound.join("crates.txt"), &folder.join("crates.txt"))?;
-        for proved in ["target/rlib", "target/stamp"] {
-            mirror(&sound.join(proved), &folder.join(proved), link)?;
-        }
+        duplicate(&sound, &folder, link)?;
         Ok(Bench { sound, folder })
     }
 }
@@ -83,8 +71,22 @@ impl Bench {
     }
 }
 
+type Put = fn(&Path, &Path) -> io::Result<()>;
+
+/// Copies the sources, and puts what was proved beside them, so that it is not proved again.
+fn duplicate(from: &Path, to: &Path, put: Put) -> io::Result<()> {
+    mirror(&from.join("crates"), &to.join("crates"), copy)?;
+    copy(&from.join("crates.txt"), &to.join("crates.txt"))?;
+    for proved in ["target/rlib", "target/stamp"] {
+        if from.join(proved).exists() {
+            mirror(&from.join(proved), &to.join(proved), put)?;
+        }
+    }
+    Ok(())
+}
+
 /// Puts each file of a folder into another one.
-fn mirror(from: &Path, to: &Path, put: fn(&Path, &Path) -> io::Result<()>) -> io::Result<()> {
+fn mirror(from: &Path, to: &Path, put: Put) -> io::Result<()> {
     fs::create_dir_all(to)?;
     for entry in fs::read_dir(from)? {
         let entry = entry?;

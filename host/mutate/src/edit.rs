@@ -2,6 +2,8 @@
 
 use std::ops::Range;
 
+use crate::tokens::Token;
+
 #[derive(Clone, Debug, PartialEq, Eq)]
 pub struct Edit {
     pub place: Range<usize>,
@@ -12,6 +14,11 @@ impl Edit {
     pub fn new(place: Range<usize>, new: impl Into<String>) -> Edit {
         let new = new.into();
         Edit { place, new }
+    }
+
+    /// Another text for one token.
+    pub fn of(token: &Token, new: impl Into<String>) -> Edit {
+        Edit::new(token.start..token.end(), new)
     }
 
     /// Two places that stand one after the other change their texts.

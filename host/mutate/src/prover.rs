@@ -16,7 +16,7 @@ pub enum Verdict {
     NoVerdict,
 }
 
-/// In seconds. No crate takes as long from nothing.
+/// In seconds. A mutant takes a few.
 const TIME_LIMIT: &str = "120";
 
 /// Proves a crate as it stands, and whatever it depends on. An error has what the prover printed.

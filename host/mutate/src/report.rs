@@ -40,31 +40,29 @@ fn section(heading: &str, names: &[String]) -> String {
     format!("\n{heading}\n  {}\n", names.join("\n  "))
 }
 
+const HEAD: &str = "\
+| crate | mutants | refused | equivalent | no verdict | unexplained | not a program |
+|---|---|---|---|---|---|---|
+";
+
 /// A row for each crate, and one for all of them.
-pub fn table(outcomes: &[Outcome]) -> String {
-    let mut libraries: Vec<&str> = outcomes
-        .iter()
-        .map(|outcome| outcome.mutant.library.as_str())
-        .collect();
+fn table(outcomes: &[Outcome]) -> String {
+    let library = |outcome: &Outcome| outcome.mutant.library.clone();
+    let mut libraries: Vec<String> = outcomes.iter().map(library).collect();
     libraries.dedup();
-    let mut text =
-        "| crate | mutants | refused | equivalent | no verdict | unexplained | not a program |\n"
-            .to_string();
-    text += "|---|---|---|---|---|---|---|\n";
-    for library in libraries {
-        let of_library = outcomes
-            .iter()
-            .filter(|outcome| outcome.mutant.library == library);
-        text += &row(library, of_library.map(|outcome| outcome.ending).collect());
+    let mut text = HEAD.to_string();
+    for name in libraries {
+        text += &row(
+            &name,
+            outcomes.iter().filter(|outcome| library(outcome) == name),
+        );
     }
-    text + &row(
-        "all",
-        outcomes.iter().map(|outcome| outcome.ending).collect(),
-    )
+    text + &row("all", outcomes.iter())
 }
 
 /// What is no program is no mutant.
-fn row(name: &str, endings: Vec<Ending>) -> String {
+fn row<'a>(name: &str, outcomes: impl Iterator<Item = &'a Outcome<'a>>) -> String {
+    let endings: Vec<Ending> = outcomes.map(|outcome| outcome.ending).collect();
     let count = |wanted: Ending| endings.iter().filter(|ending| **ending == wanted).count();
     let not_programs = count(Ending::NotAProgram);
     let counts = [
@@ -75,10 +73,8 @@ fn row(name: &str, endings: Vec<Ending>) -> String {
         count(Ending::Unexplained),
         not_programs,
     ];
-    format!(
-        "| {name} | {} |\n",
-        counts.map(|count| count.to_string()).join(" | ")
-    )
+    let counts = counts.map(|count| count.to_string()).join(" | ");
+    format!("| {name} | {counts} |\n")
 }
 
 /// The listed names of the crates, of all where none is named, that no mutant has.

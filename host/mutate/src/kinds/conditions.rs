@@ -13,15 +13,10 @@ pub fn fixed(code: &Code, part: &Part) -> Vec<Edit> {
             _ => continue,
         };
         let block = code.find(place, part.range.end, &["{"]);
-        let head = block
-            .map(|block| place + 1..block)
-            .filter(|head| code.at(head.start) != "let");
-        if let Some(head) = head {
-            edits.extend(
-                values
-                    .iter()
-                    .map(|value| Edit::new(code.place(&head), *value)),
-            );
+        let head = block.map(|block| place + 1..block);
+        if let Some(head) = head.filter(|head| code.at(head.start) != "let") {
+            let edit = |value: &&str| Edit::new(code.place(&head), *value);
+            edits.extend(values.iter().map(edit));
         }
     }
     edits

@@ -20,11 +20,8 @@ fn neighbours(token: &Token) -> Vec<Edit> {
         Sort::Quoted => characters(token.text),
         Sort::Word | Sort::Sign => Vec::new(),
     };
-    let place = token.start..token.end();
-    texts
-        .into_iter()
-        .map(|text| Edit::new(place.clone(), text))
-        .collect()
+    let edit = |text| Edit::of(token, text);
+    texts.into_iter().map(edit).collect()
 }
 
 /// The number with its type's name behind it, if any: `0u16`.

@@ -37,7 +37,7 @@ pub fn comparisons(code: &Code, part: &Part) -> Vec<Edit> {
     for place in part.range.clone().filter(|place| code.at(*place) == "for") {
         if let Some(range) = code.find(place, part.range.end, &["..", "..="]) {
             let new = if code.at(range) == ".." { "..=" } else { ".." };
-            edits.push(Edit::new(code.place(&(range..range + 1)), new));
+            edits.push(Edit::of(&code.tokens[range], new));
         }
     }
     edits
@@ -59,7 +59,7 @@ pub fn booleans(code: &Code, part: &Part) -> Vec<Edit> {
             "false" => "true",
             _ => continue,
         };
-        edits.push(Edit::new(code.place(&(place..place + 1)), new));
+        edits.push(Edit::of(&code.tokens[place], new));
     }
     edits.extend(left_out(code, part, "!"));
     edits
@@ -67,17 +67,13 @@ pub fn booleans(code: &Code, part: &Part) -> Vec<Edit> {
 
 /// The operators between two values.
 fn exchanged(code: &Code, part: &Part, table: &[(&str, &str)]) -> Vec<Edit> {
-    let mut edits = Vec::new();
-    for place in part
-        .range
-        .clone()
-        .skip(1)
-        .filter(|place| code.ends_value(place - 1))
-    {
-        let new = table.iter().find(|(old, _)| *old == code.at(place));
-        edits.extend(new.map(|(_, new)| Edit::new(code.place(&(place..place + 1)), *new)));
-    }
-    edits
+    let places = part.range.clone().skip(1);
+    let places = places.filter(|place| code.ends_value(place - 1));
+    let edit = |place: usize| {
+        let found = table.iter().find(|(old, _)| *old == code.at(place));
+        found.map(|(_, new)| Edit::of(&code.tokens[place], *new))
+    };
+    places.filter_map(edit).collect()
 }
 
 /// The operators before a value.
@@ -85,6 +81,6 @@ fn left_out(code: &Code, part: &Part, sign: &str) -> Vec<Edit> {
     let signs = part.range.clone().filter(|place| code.at(*place) == sign);
     let before = signs.filter(|place| *place == part.range.start || !code.ends_value(place - 1));
     before
-        .map(|place| Edit::new(code.place(&(place..place + 1)), ""))
+        .map(|place| Edit::of(&code.tokens[place], ""))
         .collect()
 }

@@ -13,18 +13,12 @@ pub fn arguments(code: &Code, part: &Part) -> Vec<Edit> {
     let mut lists: Vec<_> = calls.map(|open| code.items(open)).collect();
     for (open, sort) in code.braces(&part.range) {
         if sort == Braces::Fields {
-            lists.push(
-                code.items(open)
-                    .into_iter()
-                    .map(|field| value(code, field))
-                    .collect(),
-            );
+            let fields = code.items(open).into_iter();
+            lists.push(fields.map(|field| value(code, field)).collect());
         }
     }
-    lists
-        .iter()
-        .flat_map(|values| swapped_neighbours(code, values))
-        .collect()
+    let swapped = |values: &Vec<_>| swapped_neighbours(code, values);
+    lists.iter().flat_map(swapped).collect()
 }
 
 /// The value of a field; a field without one is its own value's name, and cannot be swapped.
@@ -40,22 +34,22 @@ pub fn indices(code: &Code, part: &Part) -> Vec<Edit> {
     let opens = part.range.clone().skip(1);
     let opens = opens.filter(|place| code.at(*place) == "[" && code.ends_value(place - 1));
     let indices: Vec<_> = opens.map(|open| open + 1..code.closing(open)).collect();
-    let pairs = indices.windows(2).filter(|pair| {
+    let in_one_statement = |pair: &&[Range<usize>]| {
         let mut between = pair[0].end..pair[1].start;
-        pair[0].end < pair[1].start
-            && !between.any(|place| [";", "{", "}"].contains(&code.at(place)))
-    });
-    pairs
-        .flat_map(|pair| swapped_neighbours(code, pair))
-        .collect()
+        !between.is_empty() && !between.any(|place| [";", "{", "}"].contains(&code.at(place)))
+    };
+    let pairs = indices.windows(2).filter(in_one_statement);
+    let swapped = |pair: &[_]| swapped_neighbours(code, pair);
+    pairs.flat_map(swapped).collect()
 }
 
 fn swapped_neighbours(code: &Code, values: &[Range<usize>]) -> Vec<Edit> {
-    let pairs = values
-        .windows(2)
-        .filter(|pair| !pair[0].is_empty() && !pair[1].is_empty());
-    let pairs = pairs.filter(|pair| code.text_of(&pair[0]) != code.text_of(&pair[1]));
-    let swap =
-        |pair: &[Range<usize>]| Edit::swap(code.text, code.place(&pair[0]), code.place(&pair[1]));
-    pairs.map(swap).collect()
+    let mut edits = Vec::new();
+    for pair in values.windows(2) {
+        let (first, second) = (&pair[0], &pair[1]);
+        if !first.is_empty() && !second.is_empty() && code.text_of(first) != code.text_of(second) {
+            edits.push(Edit::swap(code.text, code.place(first), code.place(second)));
+        }
+    }
+    edits
 }

@@ -10,7 +10,7 @@ pub fn other_number(code: &Code, part: &Part) -> Vec<Edit> {
     let mut edits = Vec::new();
     for place in places(code, part) {
         for number in neighbours(code.at(place)) {
-            edits.push(Edit::new(code.place(&(place..place + 1)), number));
+            edits.push(Edit::of(&code.tokens[place], number));
         }
     }
     edits

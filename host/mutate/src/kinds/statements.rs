@@ -14,13 +14,11 @@ pub fn dropped(code: &Code, part: &Part) -> Vec<Edit> {
 pub fn swapped_guards(code: &Code, part: &Part) -> Vec<Edit> {
     let mut edits = Vec::new();
     for statements in code.statements_by_block(&part.range) {
-        let pairs = statements.windows(2);
-        for pair in pairs.filter(|pair| pair.iter().all(|statement| code.is_guard(statement))) {
-            edits.push(Edit::swap(
-                code.text,
-                code.place(&pair[0]),
-                code.place(&pair[1]),
-            ));
+        for pair in statements.windows(2) {
+            let (first, second) = (&pair[0], &pair[1]);
+            if code.is_guard(first) && code.is_guard(second) {
+                edits.push(Edit::swap(code.text, code.place(first), code.place(second)));
+            }
         }
     }
     edits
