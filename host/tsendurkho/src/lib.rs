@@ -35,6 +35,11 @@ mod refusal;
 
 pub use refusal::Refusal;
 
+/// What README.md says of this crate is run as an example too.
+#[cfg(doctest)]
+#[doc = include_str!("../../../README.md")]
+struct ReadMe;
+
 /// The word for none.
 pub const NONE: u16 = 65_535;
 

@@ -1,0 +1,92 @@
+//! Every command of README.md works as it is written there, and prints what is said there.
+
+use std::fs;
+use std::os::unix::fs::symlink;
+use std::path::{Path, PathBuf};
+use std::process::Command;
+
+use program::root;
+
+/// The gate itself, which runs this test.
+const GATE: &str = ".ci/run";
+
+/// A fenced part of the text: what stands behind its first fence, and its lines.
+struct Block {
+    language: String,
+    text: String,
+}
+
+fn blocks(readme: &str) -> Vec<Block> {
+    let mut blocks = Vec::new();
+    for part in readme.split("\n```").skip(1).step_by(2) {
+        let (language, text) = part.split_once('\n').expect("a fence is a line");
+        let (language, text) = (language.to_string(), format!("{text}\n"));
+        blocks.push(Block { language, text });
+    }
+    blocks
+}
+
+/// A folder with all that the repository's has, where the commands can leave files.
+fn place() -> PathBuf {
+    let place = Path::new(env!("CARGO_TARGET_TMPDIR")).join("readme");
+    if place.exists() {
+        fs::remove_dir_all(&place).expect("an earlier run's folder can go");
+    }
+    fs::create_dir_all(place.join("home")).expect("the folder can be made");
+    let root = root().canonicalize().expect("the repository is there");
+    for entry in fs::read_dir(&root).expect("the repository can be read") {
+        let name = entry.expect("an entry can be read").file_name();
+        symlink(root.join(&name), place.join(&name)).expect("a link can be made");
+    }
+    place
+}
+
+/// What some commands print, run as one script that ends at the first failure.
+fn printed(place: &Path, commands: &str) -> String {
+    let output = Command::new("sh")
+        .args(["-eu", "-c", commands])
+        .current_dir(place)
+        .env("HOME", place.join("home"))
+        .output()
+        .expect("sh starts");
+    assert!(output.status.success(), "{commands}\n{}", String::from_utf8_lossy(&output.stderr));
+    String::from_utf8(output.stdout).expect("what is printed is text")
+}
+
+/// The archive is x86-64 code, for a compiler of that machine.
+fn links_here(place: &Path) -> bool {
+    printed(place, "uname -m").trim() == "x86_64"
+}
+
+#[test]
+fn commands_print_what_is_said() {
+    let readme = fs::read_to_string(root().join("README.md")).expect("README.md can be read");
+    let (blocks, place) = (blocks(&readme), place());
+    for block in blocks.iter().filter(|block| block.language == "c") {
+        fs::write(place.join("count.c"), &block.text).expect("count.c can be written");
+    }
+    let mut output = None;
+    let (mut run, mut compared) = (0, 0);
+    for block in &blocks {
+        if block.language == "sh" {
+            let lines = block.text.lines().filter(|line| !line.starts_with(GATE));
+            let commands = lines.collect::<Vec<_>>().join("\n");
+            output = (links_here(&place) || !commands.contains("cc ")).then(|| printed(&place, &commands));
+            run += 1;
+        } else if block.language == "text" {
+            if let Some(output) = output.take() {
+                assert_eq!(output, block.text);
+                compared += 1;
+            }
+        }
+    }
+    assert!(run >= 3 && compared >= 1, "{run} blocks of commands run, {compared} compared");
+}
+
+#[test]
+fn the_gate_is_named_once_and_is_there() {
+    let readme = fs::read_to_string(root().join("README.md")).expect("README.md can be read");
+    let named = readme.lines().filter(|line| line.starts_with(GATE)).count();
+    assert_eq!(named, 1);
+    assert!(root().join(GATE).is_file());
+}
