@@ -19,8 +19,14 @@ pub trait Call: Clone + Debug + PartialEq {
     /// The refusals it tests, in the order of the paper's table.
     const REFUSALS: &'static [Refusal];
 
-    /// A call that succeeds. Its output buffer, if any, holds any words.
-    fn sound(random: &mut Random) -> Self;
+    /// A call that succeeds, with what it takes of this shape. Its output buffer, if any, holds
+    /// any words.
+    fn of_shape(shape: Shape, random: &mut Random) -> Self;
+
+    /// The same of any shape.
+    fn sound(random: &mut Random) -> Self {
+        Self::of_shape(Shape::random(random), random)
+    }
 
     /// Makes this refusal apply. With several, the last of the table comes first, because the
     /// later rows are measured by the earlier inputs.
@@ -39,8 +45,8 @@ impl Call for ParametersCall {
     type Value = Parameters;
     const REFUSALS: &'static [Refusal] = &[Refusal::CardCount, Refusal::BrokenAllowance];
 
-    fn sound(random: &mut Random) -> Self {
-        let Shape { n, f, .. } = Shape::random(random);
+    fn of_shape(shape: Shape, _: &mut Random) -> Self {
+        let Shape { n, f, .. } = shape;
         ParametersCall { n, f }
     }
 
@@ -78,8 +84,7 @@ impl Call for StepCall {
         Refusal::OutputLength,
     ];
 
-    fn sound(random: &mut Random) -> Self {
-        let shape = Shape::random(random);
+    fn of_shape(shape: Shape, random: &mut Random) -> Self {
         StepCall {
             n: shape.n,
             f: shape.f,
@@ -136,8 +141,8 @@ impl Call for StepBytesCall {
     type Value = ();
     const REFUSALS: &'static [Refusal] = StepCall::REFUSALS;
 
-    fn sound(random: &mut Random) -> Self {
-        StepCall::sound(random).into()
+    fn of_shape(shape: Shape, random: &mut Random) -> Self {
+        StepCall::of_shape(shape, random).into()
     }
 
     fn spoil(&mut self, refusal: Refusal, random: &mut Random) {
@@ -181,8 +186,7 @@ impl Call for BeatCall {
         Refusal::OutputLength,
     ];
 
-    fn sound(random: &mut Random) -> Self {
-        let shape = Shape::random(random);
+    fn of_shape(shape: Shape, random: &mut Random) -> Self {
         let broken = shape.broken_set(random);
         let records = shape.table(random);
         BeatCall {
@@ -234,8 +238,7 @@ impl Call for ShownCall {
         Refusal::Records,
     ];
 
-    fn sound(random: &mut Random) -> Self {
-        let shape = Shape::random(random);
+    fn of_shape(shape: Shape, random: &mut Random) -> Self {
         ShownCall {
             n: shape.n,
             f: shape.f,
@@ -270,8 +273,8 @@ impl Call for LagCall {
     type Value = i32;
     const REFUSALS: &'static [Refusal] = &[Refusal::Modulus, Refusal::LagInput];
 
-    fn sound(random: &mut Random) -> Self {
-        let Shape { c, .. } = Shape::random(random);
+    fn of_shape(shape: Shape, random: &mut Random) -> Self {
+        let Shape { c, .. } = shape;
         let x = random.between(0, c - 1);
         let any = random.between(0, c - 1);
         let half_a_turn_on = (x + c / 2) % c;
@@ -318,8 +321,7 @@ impl Call for WriteCall {
         Refusal::OutputLength,
     ];
 
-    fn sound(random: &mut Random) -> Self {
-        let shape = Shape::random(random);
+    fn of_shape(shape: Shape, random: &mut Random) -> Self {
         WriteCall {
             n: shape.n,
             f: shape.f,
@@ -361,8 +363,7 @@ impl Call for ReadCall {
         Refusal::Text,
     ];
 
-    fn sound(random: &mut Random) -> Self {
-        let shape = Shape::random(random);
+    fn of_shape(shape: Shape, random: &mut Random) -> Self {
         ReadCall {
             n: shape.n,
             f: shape.f,
