@@ -1,0 +1,132 @@
+//! The throw-away crate's text, and what the prover says of it.
+
+use std::collections::BTreeSet;
+
+use compare::case::Case;
+use compare::claims::{claim_names, crate_files};
+use compare::command::{answer, root};
+use compare::definitions::Definitions;
+use compare::kinds::{draw, KINDS};
+use compare::prover::{refused_claims, Refused};
+use compare::report::{differences, figures};
+use compare::value::Value;
+
+fn definitions() -> Definitions {
+    Definitions::read(&root().join("crates/rules/specs")).expect("the rules can be read")
+}
+
+fn lag(value: i64) -> Case {
+    let term = "lagAnswer 8 1 7".to_string();
+    Case::new("1 against 7".to_string()).says("lag", term, Value::Integer(value))
+}
+
+#[test]
+fn the_definitions_are_read_from_the_rules() {
+    let Definitions { imports, unfolded } = definitions();
+    assert!(imports.contains("use Rattle.rules.specs.Lag.{ahead, nearest, lagOf}\n"));
+    assert!(unfolded.contains(&"lagOf".to_string()));
+    assert!(!unfolded.contains(&"ahead".to_string()));
+    let names: BTreeSet<&String> = unfolded.iter().collect();
+    assert_eq!(names.len(), unfolded.len());
+}
+
+#[test]
+fn a_name_of_two_files_is_brought_in_twice() {
+    let Definitions { imports, unfolded } = definitions();
+    assert!(imports.contains(" beatRefusal,"));
+    assert!(imports.contains(" beatRefusal as beatRefusal′,"));
+    assert!(unfolded.contains(&"beatRefusal′".to_string()));
+}
+
+#[test]
+fn every_term_is_of_a_definition() {
+    let imports = definitions().imports;
+    let known: BTreeSet<&str> = imports.split(&[' ', ',', '{', '}'][..]).collect();
+    for case in draw(2 * KINDS.len(), 3) {
+        for equation in case.equations {
+            let definition = equation.term.split(' ').next().unwrap();
+            assert!(known.contains(definition), "{definition}");
+        }
+    }
+}
+
+#[test]
+fn each_equation_is_a_claim_in_a_file_that_is_listed() {
+    let cases: Vec<Case> = (0..30).map(lag).collect();
+    let files = crate_files(&definitions(), &cases);
+    let (lib, batches) = files.split_last().unwrap();
+    let wanted = (
+        "Lib.antt".to_string(),
+        "pub mod Batch0\npub mod Batch1\n".to_string(),
+    );
+    assert_eq!(lib, &wanted);
+    assert_eq!(
+        [&batches[0].0, &batches[1].0],
+        ["Batch0.antt", "Batch1.antt"]
+    );
+    let text = batches
+        .iter()
+        .map(|(_, text)| text.as_str())
+        .collect::<String>();
+    for (value, name) in claim_names(&cases).iter().enumerate() {
+        assert!(text.contains(&format!("\npub {name} : lagAnswer 8 1 7 ≡ pos {value}\n")));
+        assert!(text.contains(&format!("\n{name} = refl\n")));
+    }
+}
+
+/// What the prover prints where the second of three claims is wrong.
+const SAID: &str = "\
+rt: rules proved (1 s)
+Batch0.antt:18:9: error: `case1-lag`: expected type `lagAnswer 8 1 7 ≡ pos 3`
+  computed as far as they go, the two types are ..
+logic=not-proved
+rt: cases NOT PROVED (exit 1, 0 s)
+";
+
+#[test]
+fn a_refused_claim_is_told_with_its_inputs() {
+    let refused = refused_claims(SAID);
+    assert_eq!(refused.keys().collect::<Vec<_>>(), ["case1-lag"]);
+    let told = differences(&[lag(2), lag(3), lag(2)], &refused);
+    let wanted = "case 1, the halves of a group: lag\n\
+                  inputs: 1 against 7\n\
+                  the second implementation says: pos 3\n\
+                  Batch0.antt:18:9: error: ";
+    assert!(told.starts_with(wanted), "{told}");
+    assert!(told.contains("\n  computed as far as they go"));
+    assert!(!told.contains("logic=not-proved"));
+    assert!(told.ends_with("compare: 1 equations do not hold\n"));
+}
+
+#[test]
+fn another_error_is_no_refused_claim() {
+    let said = "Batch0.antt:8:1: error: `lagOf`: there is no such name\n";
+    assert_eq!(refused_claims(said), Refused::new());
+}
+
+#[test]
+fn wrong_values_that_are_not_refused_are_an_error() {
+    let (cases, wrong) = ([lag(2), lag(2)], [lag(3), lag(3)]);
+    let mut refused = refused_claims(SAID);
+    let told = figures(&cases, &wrong, &refused).unwrap_err();
+    assert_eq!(
+        told,
+        "compare: wrong values are not refused: [\"case0-lag\"]\n"
+    );
+    refused.insert("case0-lag".to_string(), String::new());
+    let told = figures(&cases, &wrong, &refused).unwrap();
+    assert!(told.starts_with("compare: 2 cases, 2 equations, all as the definitions compute\n"));
+}
+
+#[test]
+fn other_arguments_are_told_the_usage() {
+    for arguments in [
+        &["many"][..],
+        &["0"],
+        &["-3"],
+        &["5", "x"],
+        &["5", "6", "7"],
+    ] {
+        assert!(answer(arguments).unwrap_err().starts_with("usage: compare"));
+    }
+}

@@ -1,0 +1,140 @@
+//! The cases that are drawn: reproducible, of every kind, and telling.
+
+use std::collections::BTreeSet;
+
+use compare::calls;
+use compare::case::Case;
+use compare::files::{damaged_file, good_file, one_line};
+use compare::kinds::{draw, Draw, KINDS};
+use compare::level::{cooldown, phase, three_steps, vote};
+use compare::value::Value;
+use second::generate::calls::{
+    BeatCall, LagCall, ParametersCall, ReadCall, ShownCall, StepBytesCall, StepCall, WriteCall,
+};
+use second::random::Random;
+
+/// The values that an equation has in many cases of one kind.
+fn values(draw: Draw, about: &str) -> Vec<Value> {
+    let mut random = Random::new(31);
+    let cases = (0..400).map(|_| draw(&mut random));
+    let equations = cases.flat_map(|case| case.equations);
+    let wanted = equations.filter(|equation| equation.about == about);
+    wanted.map(|equation| equation.value).collect()
+}
+
+#[test]
+fn a_seed_has_its_cases_and_a_case_does_not_hang_on_their_count() {
+    assert_eq!(draw(60, 5)[..40], draw(40, 5));
+    assert_ne!(draw(40, 5), draw(40, 6));
+}
+
+/// The definitions that a case is about.
+fn definitions(case: &Case) -> Vec<String> {
+    let terms = case.equations.iter().map(|equation| &equation.term);
+    terms
+        .map(|term| term.split(' ').take(1).collect())
+        .collect()
+}
+
+#[test]
+fn the_kinds_take_turns() {
+    let names: BTreeSet<&str> = KINDS.iter().map(|kind| kind.name).collect();
+    assert_eq!(names.len(), KINDS.len());
+    let cases = draw(2 * KINDS.len(), 1);
+    let (once, again) = cases.split_at(KINDS.len());
+    let once: Vec<_> = once.iter().map(definitions).collect();
+    assert_eq!(once, again.iter().map(definitions).collect::<Vec<_>>());
+    // Good and damaged run files are about one definition.
+    let different: BTreeSet<_> = once.into_iter().collect();
+    assert_eq!(different.len(), KINDS.len() - 1);
+}
+
+#[test]
+fn a_case_makes_claims_of_different_names_and_wrong_values_differ() {
+    for case in draw(10 * KINDS.len(), 2) {
+        let abouts: BTreeSet<_> = case.equations.iter().map(|one| one.about).collect();
+        assert!(!abouts.is_empty());
+        assert_eq!(abouts.len(), case.equations.len());
+        for (right, wrong) in case.equations.iter().zip(case.damaged().equations) {
+            assert_eq!(right.term, wrong.term);
+            assert_ne!(right.value, wrong.value);
+        }
+    }
+}
+
+fn meets_every_refusal_and_none<C: calls::Defined>() {
+    let met = values(calls::case::<C>, "refusal");
+    for number in C::REFUSALS
+        .iter()
+        .map(|refusal| refusal.number())
+        .chain([0])
+    {
+        assert!(met.contains(&Value::Number(number.into())), "{number}");
+    }
+}
+
+#[test]
+fn each_call_meets_each_of_its_refusals_and_succeeds() {
+    meets_every_refusal_and_none::<ParametersCall>();
+    meets_every_refusal_and_none::<StepCall>();
+    meets_every_refusal_and_none::<StepBytesCall>();
+    meets_every_refusal_and_none::<BeatCall>();
+    meets_every_refusal_and_none::<ShownCall>();
+    meets_every_refusal_and_none::<LagCall>();
+    meets_every_refusal_and_none::<WriteCall>();
+    meets_every_refusal_and_none::<ReadCall>();
+}
+
+fn is_count(value: &Value) -> bool {
+    matches!(value, Value::Vote(Some(_)))
+}
+
+#[test]
+fn votes_are_counts_and_none() {
+    let kinds: [(Draw, &str); 5] = [
+        (calls::case::<ShownCall>, "answer"),
+        (vote, "vote"),
+        (phase, "p0"),
+        (phase, "p1"),
+        (three_steps, "a"),
+    ];
+    for (draw, about) in kinds {
+        let (counts, nones): (Vec<_>, Vec<_>) =
+            values(draw, about).iter().cloned().partition(is_count);
+        assert!(counts.len() > 50 && nones.len() > 50, "{about}");
+    }
+}
+
+#[test]
+fn cooldowns_fall_and_restart() {
+    let waits = values(cooldown, "w");
+    let restarts = [108, 144, 180, 216, 252].map(Value::Number);
+    assert!(restarts.iter().all(|restart| waits.contains(restart)));
+    assert!(waits.contains(&Value::Number(0)));
+    assert!(waits
+        .iter()
+        .any(|wait| !restarts.contains(wait) && *wait != Value::Number(0)));
+}
+
+#[test]
+fn lines_are_found_and_missed_and_run_files_end_well_and_badly() {
+    let found = values(one_line, "refusal");
+    assert!(found.contains(&Value::Number(0)) && found.contains(&Value::Number(10)));
+    let refused =
+        |outputs: Vec<Value>| outputs.iter().filter(|output| ends_refused(output)).count();
+    assert_eq!(refused(values(good_file, "output")), 0);
+    let damaged = refused(values(damaged_file, "output"));
+    assert!((200..400).contains(&damaged));
+}
+
+/// Whether the last line is a refusal: any other begins with a beat of these short files.
+fn ends_refused(output: &Value) -> bool {
+    let characters = match output {
+        Value::Numbers(characters) => characters,
+        other => panic!("an output is a text, not {other:?}"),
+    };
+    let (ended, lines) = characters.split_last().expect("every file has an output");
+    assert_eq!(*ended, 10);
+    let last = lines.rsplit(|&character| character == 10).next().unwrap();
+    last.starts_with(&[u64::from(b'f'); 4])
+}
