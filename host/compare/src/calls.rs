@@ -1,4 +1,4 @@
-//! The calls: the refusal, and the answer or the buffer afterwards, refused or not.
+//! The calls: their refusals, and the answer or the buffer afterwards, refused or not.
 
 use second::generate::calls::{
     BeatCall, Call, LagCall, ParametersCall, ReadCall, ShownCall, StepBytesCall, StepCall,
@@ -9,7 +9,7 @@ use second::random::Random;
 use second::refusal::Refusal;
 
 use crate::case::Case;
-use crate::kinds::small_shape;
+use crate::shapes::small_shape;
 use crate::value::{apply, Value};
 
 /// A call whose refusal and whose answer are definitions.
@@ -24,18 +24,39 @@ pub trait Defined: Call {
     fn answered(&self, value: Option<Self::Value>) -> Value;
 }
 
-/// A call, in every second case with up to three things wrong.
+/// How many calls of a case are asked for their refusal alone, which costs next to nothing.
+const REFUSED: usize = 8;
+
+/// A call, in every third case refused, and some more refusals.
 pub fn case<C: Defined>(random: &mut Random) -> Case {
     let mut call = C::of_shape(small_shape(random, MOST_CARDS), random);
-    if random.one_in(2) {
+    if random.one_in(3) {
         spoil(&mut call, random);
     }
+    let mut case = answered(call);
+    for place in 1..=REFUSED {
+        let mut call = C::sound(random);
+        spoil(&mut call, random);
+        let (term, made) = (call.refusal(), call.make());
+        case = case.says(&format!("refusal-{place}"), term, number_of(&made));
+    }
+    case
+}
+
+/// The refusal of a call, and its answer.
+pub fn answered<C: Defined>(mut call: C) -> Case {
     let case = Case::new(format!("{call:?}"));
     let (refusal, answer) = (call.refusal(), call.answer());
     let made = call.make();
-    let number = made.as_ref().err().map_or(0, |refusal| refusal.number());
-    case.says("refusal", refusal, Value::Number(number.into()))
+    let number = number_of(&made);
+    case.says("refusal", refusal, number)
         .says("answer", answer, call.answered(made.ok()))
+}
+
+/// The refusal's number, or 0.
+fn number_of<T>(made: &Result<T, Refusal>) -> Value {
+    let number = made.as_ref().err().map_or(0, |refusal| refusal.number());
+    Value::Number(number.into())
 }
 
 /// Makes some of the call's refusals apply, the last of the table first.

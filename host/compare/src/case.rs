@@ -6,7 +6,7 @@ use crate::value::Value;
 #[derive(Clone, Debug, PartialEq, Eq)]
 pub struct Equation {
     /// What of the case it is about, in a word.
-    pub about: &'static str,
+    pub about: String,
     /// The definition, applied to the inputs.
     pub term: String,
     /// What the second implementation says.
@@ -29,7 +29,8 @@ impl Case {
     }
 
     /// The case with one equation more.
-    pub fn says(mut self, about: &'static str, term: String, value: Value) -> Case {
+    pub fn says(mut self, about: &str, term: String, value: Value) -> Case {
+        let about = about.to_string();
         self.equations.push(Equation { about, term, value });
         self
     }

@@ -35,7 +35,7 @@ fn claims(definitions: &Definitions, number: usize, case: &Case) -> String {
     let unfolded = definitions.unfolded.join(" ");
     let mut text = String::new();
     for equation in &case.equations {
-        let name = claim_name(number, equation.about);
+        let name = claim_name(number, &equation.about);
         let (term, value) = (&equation.term, &equation.value);
         text += &format!("\npub {name} : {term} ≡ {value}\nunfolding {unfolded}\n{name} = refl\n");
     }
@@ -61,7 +61,7 @@ pub fn claim_names(cases: &[Case]) -> Vec<String> {
         names.extend(
             case.equations
                 .iter()
-                .map(|one| claim_name(number, one.about)),
+                .map(|one| claim_name(number, &one.about)),
         );
     }
     names

@@ -3,11 +3,10 @@
 use second::generate::calls::{
     BeatCall, LagCall, ParametersCall, ReadCall, ShownCall, StepBytesCall, StepCall, WriteCall,
 };
-use second::generate::Shape;
 use second::random::Random;
 
 use crate::case::Case;
-use crate::{calls, files, level};
+use crate::{calls, directed, files, level};
 
 /// Draws a case.
 pub type Draw = fn(&mut Random) -> Case;
@@ -21,7 +20,7 @@ const fn kind(name: &'static str, draw: Draw) -> Kind {
     Kind { name, draw }
 }
 
-pub static KINDS: [Kind; 19] = [
+pub static KINDS: [Kind; 21] = [
     kind("the formulas of f", level::formulas),
     kind("the halves of a group", level::halves),
     kind("reading a word", level::reading),
@@ -32,15 +31,17 @@ pub static KINDS: [Kind; 19] = [
     kind("the three steps", level::three_steps),
     kind("the parameters", calls::case::<ParametersCall>),
     kind("one card's step", calls::case::<StepCall>),
+    kind("one card's step, votes going on", directed::votes_go_on),
     kind("one card's step on bytes", calls::case::<StepBytesCall>),
     kind("the whole beat", calls::case::<BeatCall>),
     kind("the shown count", calls::case::<ShownCall>),
     kind("the lag", calls::case::<LagCall>),
     kind("writing a record", calls::case::<WriteCall>),
     kind("reading a record", calls::case::<ReadCall>),
+    kind("the digits of a word", files::digits),
     kind("a line of a text", files::one_line),
     kind("a good run file", files::good_file),
-    kind("a damaged run file", files::damaged_file),
+    kind("damaged run files", files::damaged_files),
 ];
 
 /// The kind of the case of this number.
@@ -56,15 +57,4 @@ pub fn draw(count: usize, seed: u64) -> Vec<Case> {
         (kind_of(number).draw)(&mut random)
     };
     (0..count).map(case).collect()
-}
-
-/// A shape with at most so many cards, and seldom a large modulus: the smallest count heard more
-/// than f times is defined by a walk through all counts.
-pub fn small_shape(random: &mut Random, cards: u32) -> Shape {
-    loop {
-        let shape = Shape::random(random);
-        if shape.n <= cards && (shape.c <= 100 || random.one_in(20)) {
-            return shape;
-        }
-    }
 }

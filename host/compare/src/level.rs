@@ -10,7 +10,7 @@ use second::random::Random;
 use second::split;
 
 use crate::case::Case;
-use crate::kinds::small_shape;
+use crate::shapes::split_group;
 use crate::value::{apply, Value};
 
 /// The formulas of an f, beyond those that a rack may have.
@@ -141,17 +141,6 @@ pub fn three_steps(random: &mut Random) -> Case {
     Case::new(format!("{group:?}, d {d}, {own:?}, heard {heard:?}"))
         .says("a", gained, Value::Vote(wanted.a))
         .says("b", bit, Value::Number(wanted.b.into()))
-}
-
-/// A group that is split.
-fn split_group(random: &mut Random) -> Group {
-    loop {
-        let Shape { n, f, c } = small_shape(random, params::MOST_CARDS);
-        let group = Group::outermost(n, f, c).expect("a drawn shape is within the limits");
-        if group.is_split() {
-            return group;
-        }
-    }
 }
 
 /// A modulus that a half may have.

@@ -10,12 +10,13 @@ pub fn differences(cases: &[Case], refused: &Refused) -> String {
     let mut told = String::new();
     for (number, case) in cases.iter().enumerate() {
         for equation in &case.equations {
-            if let Some(said) = refused.get(&claim_name(number, equation.about)) {
+            if let Some(said) = refused.get(&claim_name(number, &equation.about)) {
                 told += &format!(
-                    "case {number}, {}: {}\ninputs: {}\nthe second implementation says: {}\n{said}\n",
+                    "case {number}, {}: {}\ninputs: {}\ndefinition: {}\nsecond implementation: {}\n{said}\n",
                     kind_of(number).name,
                     equation.about,
                     case.inputs,
+                    equation.term,
                     equation.value,
                 );
             }

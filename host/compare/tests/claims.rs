@@ -90,7 +90,8 @@ fn a_refused_claim_is_told_with_its_inputs() {
     let told = differences(&[lag(2), lag(3), lag(2)], &refused);
     let wanted = "case 1, the halves of a group: lag\n\
                   inputs: 1 against 7\n\
-                  the second implementation says: pos 3\n\
+                  definition: lagAnswer 8 1 7\n\
+                  second implementation: pos 3\n\
                   Batch0.antt:18:9: error: ";
     assert!(told.starts_with(wanted), "{told}");
     assert!(told.contains("\n  computed as far as they go"));

@@ -4,7 +4,8 @@ use std::collections::BTreeSet;
 
 use compare::calls;
 use compare::case::Case;
-use compare::files::{damaged_file, good_file, one_line};
+use compare::directed::votes_go_on;
+use compare::files::{damaged_files, digits, good_file, one_line};
 use compare::kinds::{draw, Draw, KINDS};
 use compare::level::{cooldown, phase, three_steps, vote};
 use compare::value::Value;
@@ -13,12 +14,12 @@ use second::generate::calls::{
 };
 use second::random::Random;
 
-/// The values that an equation has in many cases of one kind.
+/// The values that equations have in many cases of one kind, if their name begins so.
 fn values(draw: Draw, about: &str) -> Vec<Value> {
     let mut random = Random::new(31);
     let cases = (0..400).map(|_| draw(&mut random));
     let equations = cases.flat_map(|case| case.equations);
-    let wanted = equations.filter(|equation| equation.about == about);
+    let wanted = equations.filter(|equation| equation.about.starts_with(about));
     wanted.map(|equation| equation.value).collect()
 }
 
@@ -29,7 +30,7 @@ fn a_seed_has_its_cases_and_a_case_does_not_hang_on_their_count() {
 }
 
 /// The definitions that a case is about.
-fn definitions(case: &Case) -> Vec<String> {
+fn definitions(case: &Case) -> BTreeSet<String> {
     let terms = case.equations.iter().map(|equation| &equation.term);
     terms
         .map(|term| term.split(' ').take(1).collect())
@@ -44,15 +45,15 @@ fn the_kinds_take_turns() {
     let (once, again) = cases.split_at(KINDS.len());
     let once: Vec<_> = once.iter().map(definitions).collect();
     assert_eq!(once, again.iter().map(definitions).collect::<Vec<_>>());
-    // Good and damaged run files are about one definition.
+    // Good and damaged run files are about one definition, and so are a step and a directed one.
     let different: BTreeSet<_> = once.into_iter().collect();
-    assert_eq!(different.len(), KINDS.len() - 1);
+    assert_eq!(different.len(), KINDS.len() - 2);
 }
 
 #[test]
 fn a_case_makes_claims_of_different_names_and_wrong_values_differ() {
     for case in draw(10 * KINDS.len(), 2) {
-        let abouts: BTreeSet<_> = case.equations.iter().map(|one| one.about).collect();
+        let abouts: BTreeSet<_> = case.equations.iter().map(|one| &one.about).collect();
         assert!(!abouts.is_empty());
         assert_eq!(abouts.len(), case.equations.len());
         for (right, wrong) in case.equations.iter().zip(case.damaged().equations) {
@@ -117,23 +118,57 @@ fn cooldowns_fall_and_restart() {
 }
 
 #[test]
-fn lines_are_found_and_missed_and_run_files_end_well_and_badly() {
+fn directed_steps_reach_votes_that_go_on_at_every_wait() {
+    let answers = values(votes_go_on, "answer");
+    let levels: Vec<&[u64]> = answers.iter().map(|answer| &numbers(answer)[..8]).collect();
+    assert!(levels
+        .iter()
+        .all(|level| level[2] < 65_535 && level[3] < 65_535));
+    // With f = 1: at the end, from just below the start, from the start, and started again.
+    for wait in [0, 106, 107, 108] {
+        assert!(levels.iter().any(|level| level[4] == wait), "{wait}");
+        assert!(levels.iter().any(|level| level[5] == wait), "{wait}");
+    }
+}
+
+#[test]
+fn words_are_well_formed_and_not() {
+    let formed = values(digits, "formed");
+    let well = formed
+        .iter()
+        .filter(|&bit| *bit == Value::Number(1))
+        .count();
+    assert!((1_200..2_000).contains(&well));
+    assert_eq!(values(digits, "word").len(), well);
+}
+
+#[test]
+fn lines_are_found_and_missed() {
     let found = values(one_line, "refusal");
     assert!(found.contains(&Value::Number(0)) && found.contains(&Value::Number(10)));
+}
+
+#[test]
+fn run_files_end_well_and_badly() {
     let refused =
         |outputs: Vec<Value>| outputs.iter().filter(|output| ends_refused(output)).count();
     assert_eq!(refused(values(good_file, "output")), 0);
-    let damaged = refused(values(damaged_file, "output"));
-    assert!((200..400).contains(&damaged));
+    assert_eq!(refused(values(good_file, "of-line-1")), 400);
+    assert!((800..1_600).contains(&refused(values(damaged_files, "output"))));
+}
+
+fn numbers(value: &Value) -> &[u64] {
+    match value {
+        Value::Numbers(numbers) => numbers,
+        other => panic!("words or characters are wanted, not {other:?}"),
+    }
 }
 
 /// Whether the last line is a refusal: any other begins with a beat of these short files.
 fn ends_refused(output: &Value) -> bool {
-    let characters = match output {
-        Value::Numbers(characters) => characters,
-        other => panic!("an output is a text, not {other:?}"),
-    };
-    let (ended, lines) = characters.split_last().expect("every file has an output");
+    let (ended, lines) = numbers(output)
+        .split_last()
+        .expect("every file has an output");
     assert_eq!(*ended, 10);
     let last = lines.rsplit(|&character| character == 10).next().unwrap();
     last.starts_with(&[u64::from(b'f'); 4])
