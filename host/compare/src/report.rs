@@ -9,11 +9,11 @@ use crate::prover::Refused;
 pub fn differences(cases: &[Case], refused: &Refused) -> String {
     let mut told = String::new();
     for (number, case) in cases.iter().enumerate() {
+        let (kind, _) = kind_of(number);
         for equation in &case.equations {
             if let Some(said) = refused.get(&claim_name(number, &equation.about)) {
                 told += &format!(
-                    "case {number}, {}: {}\ninputs: {}\ndefinition: {}\nsecond implementation: {}\n{said}\n",
-                    kind_of(number).name,
+                    "case {number}, {kind}: {}\ninputs: {}\ndefinition: {}\nsecond implementation: {}\n{said}\n",
                     equation.about,
                     case.inputs,
                     equation.term,

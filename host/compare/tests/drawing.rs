@@ -39,7 +39,7 @@ fn definitions(case: &Case) -> BTreeSet<String> {
 
 #[test]
 fn the_kinds_take_turns() {
-    let names: BTreeSet<&str> = KINDS.iter().map(|kind| kind.name).collect();
+    let names: BTreeSet<&str> = KINDS.iter().map(|&(name, _)| name).collect();
     assert_eq!(names.len(), KINDS.len());
     let cases = draw(2 * KINDS.len(), 1);
     let (once, again) = cases.split_at(KINDS.len());
