@@ -10,12 +10,12 @@ use crate::kinds::{draw, KINDS};
 use crate::prover::Repository;
 use crate::report::{differences, figures};
 
-const CASES: usize = 420;
+const CASES: usize = 440;
 const SEED: u64 = 1;
 
 const USAGE: &str = "\
 usage: compare [CASES [SEED]]   the definitions against the second implementation
-CASES is 420 and SEED is 1 where it is missing. A difference is an error.
+CASES is 440 and SEED is 1 where it is missing. A difference is an error.
 ";
 
 /// What goes to standard output, or to standard error where something is wrong.

@@ -2,6 +2,7 @@
 
 use second::generate::calls::no_digit;
 use second::generate::runfiles::{damaged, Damage, RunFile};
+use second::params;
 use second::random::Random;
 use second::runfile::run;
 use second::text::{line, read_words, write_words};
@@ -10,8 +11,9 @@ use crate::case::Case;
 use crate::shapes::small_shape;
 use crate::value::{apply, Value};
 
-/// How many words, and how many damaged files, are asked for in one case.
+/// How many words, first lines and damaged files are asked for in one case.
 const WORDS: usize = 8;
+const FIRST_LINES: usize = 8;
 const DAMAGED: usize = 4;
 
 /// Words of four digits, every second one with a character that is no digit.
@@ -64,6 +66,18 @@ pub fn one_line(random: &mut Random) -> Case {
         )
 }
 
+/// Files of a first line alone, whose numbers are not all good.
+pub fn first_lines(random: &mut Random) -> Case {
+    let mut texts = Vec::new();
+    for _ in 0..FIRST_LINES {
+        let file = short_file(random, params::MOST_CARDS);
+        let (mut text, _) = damaged(random, &file, Damage::WrongHeader);
+        text.truncate(file.lines[0].len());
+        texts.push(text);
+    }
+    outputs_of(&texts)
+}
+
 /// A good file, and its first line alone.
 pub fn good_file(random: &mut Random) -> Case {
     let file = short_file(random, 8);
@@ -81,12 +95,7 @@ pub fn damaged_files(random: &mut Random) -> Case {
         let damage = random.pick(&Damage::ALL);
         texts.push(damaged(random, &file, damage).0);
     }
-    let inputs: Vec<String> = texts.iter().map(|text| shown(text)).collect();
-    let mut case = Case::new(inputs.join(", "));
-    for (place, text) in texts.iter().enumerate() {
-        case = output_of(case, &format!("output-{place}"), text);
-    }
-    case
+    outputs_of(&texts)
 }
 
 /// A file of at most three beats with at most so many cards: with more of them the texts grow
@@ -96,6 +105,16 @@ fn short_file(random: &mut Random, cards: u32) -> RunFile {
     let broken = shape.broken_set(random);
     let beats = random.below(4);
     RunFile::of_length(random, shape, broken, beats)
+}
+
+/// The whole outputs for some texts.
+fn outputs_of(texts: &[Vec<u8>]) -> Case {
+    let inputs: Vec<String> = texts.iter().map(|text| shown(text)).collect();
+    let mut case = Case::new(inputs.join(", "));
+    for (place, text) in texts.iter().enumerate() {
+        case = output_of(case, &format!("output-{place}"), text);
+    }
+    case
 }
 
 /// The case with the whole output for a text.

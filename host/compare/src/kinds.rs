@@ -14,7 +14,7 @@ pub type Draw = fn(&mut Random) -> Case;
 /// Its name, and how it is drawn.
 pub type Kind = (&'static str, Draw);
 
-pub static KINDS: [Kind; 21] = [
+pub static KINDS: [Kind; 22] = [
     ("the formulas of f", level::formulas),
     ("the halves of a group", level::halves),
     ("reading a word", level::reading),
@@ -34,6 +34,7 @@ pub static KINDS: [Kind; 21] = [
     ("reading a record", calls::case::<ReadCall>),
     ("the digits of a word", files::digits),
     ("a line of a text", files::one_line),
+    ("first lines of run files", files::first_lines),
     ("a good run file", files::good_file),
     ("damaged run files", files::damaged_files),
 ];

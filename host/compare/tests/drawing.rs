@@ -5,7 +5,7 @@ use std::collections::BTreeSet;
 use compare::calls;
 use compare::case::Case;
 use compare::directed::votes_go_on;
-use compare::files::{damaged_files, digits, good_file, one_line};
+use compare::files::{damaged_files, digits, first_lines, good_file, one_line};
 use compare::kinds::{draw, Draw, KINDS};
 use compare::level::{cooldown, phase, three_steps, vote};
 use compare::value::Value;
@@ -45,9 +45,9 @@ fn the_kinds_take_turns() {
     let (once, again) = cases.split_at(KINDS.len());
     let once: Vec<_> = once.iter().map(definitions).collect();
     assert_eq!(once, again.iter().map(definitions).collect::<Vec<_>>());
-    // Good and damaged run files are about one definition, and so are a step and a directed one.
+    // Three kinds are about run files, and two about one card's step.
     let different: BTreeSet<_> = once.into_iter().collect();
-    assert_eq!(different.len(), KINDS.len() - 2);
+    assert_eq!(different.len(), KINDS.len() - 3);
 }
 
 #[test]
@@ -155,6 +155,15 @@ fn run_files_end_well_and_badly() {
     assert_eq!(refused(values(good_file, "output")), 0);
     assert_eq!(refused(values(good_file, "of-line-1")), 400);
     assert!((800..1_600).contains(&refused(values(damaged_files, "output"))));
+}
+
+#[test]
+fn first_lines_are_refused_for_every_number_on_them() {
+    let outputs = values(first_lines, "output");
+    for refusal in ["01", "02", "03", "07"] {
+        let line = Value::list(format!("ffff00000001{refusal}\n").as_bytes());
+        assert!(outputs.contains(&line), "{refusal}");
+    }
 }
 
 fn numbers(value: &Value) -> &[u64] {
