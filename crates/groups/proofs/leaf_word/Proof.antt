@@ -1,12 +1,12 @@
--- `card::leaf_word` meets its contract. Assumes nothing.
+-- `groups::leaf_word` meets its contract. Assumes nothing.
 use borrow.Author.Needs.{needs}
 use Prim.Native.Nat.{_+_}
 use native.Mathlib.Nat.{mod-lt}
 use native.Mathlib.Omega.{arith}
 use Rattle.rules.specs.OneBeat.{leafNext}
 use Rattle.level.proofs.Places.{base-within}
-use Rattle.card.proofs.leaf_word.Statement.{statement}
-use Rattle.card.proofs.leaf_word.Tie as tie
+use Rattle.groups.proofs.leaf_word.Statement.{statement}
+use Rattle.groups.proofs.leaf_word.Tie as tie
 
 said-requires : tie.Need-said-requires
 said-requires c κs = let t = c .before .before .pre in rw (c .column .ensures) (base-within t, omega (arith, t .few))

@@ -1,4 +1,4 @@
--- `card::step_group` and `card::step_half` meet their contracts: f falls on each round. Assumes nothing.
+-- `groups::step_group` and `groups::step_half` meet their contracts: f falls on each round. Assumes nothing.
 use borrow.Author.Needs.{needs}
 use borrow.Author.Tests.{lt-ltb, le-ltb}
 use mathlib.Core.Path.{refl, _∙_}
@@ -10,21 +10,21 @@ use Rattle.level.specs.Groups.{heardBy}
 use Rattle.rules.proofs.Records.{eight-words}
 use Rattle.level.proofs.Places.{split-narrow, split-cards}
 use Rattle.level.proofs.Rows.{row-is}
-use Rattle.card.proofs.Words.{leaf-is, node-is, half-is, half-smaller}
-use Rattle.card.proofs.step_group.Reads as step-group
-use Rattle.card.proofs.step_group.Kinds as step-group-kinds
-use Rattle.card.proofs.+step_group+step_half.Lts-step_group as step-group-lts
-use Rattle.card.proofs.step_half.Reads as step-half
-use Rattle.card.proofs.step_half.Kinds as step-half-kinds
-use Rattle.card.proofs.+step_group+step_half.Lts-step_half as step-half-lts
-use Rattle.card.proofs.leaf_word.Reads as leaf-word-reads
+use Rattle.groups.proofs.Words.{leaf-is, node-is, half-is, half-smaller}
+use Rattle.groups.proofs.step_group.Reads as step-group
+use Rattle.groups.proofs.step_group.Kinds as step-group-kinds
+use Rattle.groups.proofs.+step_group+step_half.Lts-step_group as step-group-lts
+use Rattle.groups.proofs.step_half.Reads as step-half
+use Rattle.groups.proofs.step_half.Kinds as step-half-kinds
+use Rattle.groups.proofs.+step_group+step_half.Lts-step_half as step-half-lts
+use Rattle.groups.proofs.leaf_word.Reads as leaf-word-reads
 use Rattle.level.proofs.group.half_one.Reads as half-one-reads
 use Rattle.level.proofs.group.half_zero.Reads as half-zero-reads
 use Rattle.level.proofs.next_level.Reads as next-level-reads
 use Rattle.level.proofs.put_level.Reads as put-level-reads
 use Rattle.params.proofs.row_of.Reads as row-of-reads
-use Rattle.card.proofs.+step_group+step_half.{statement}
-use Rattle.card.proofs.+step_group+step_half.Tie.{close}
+use Rattle.groups.proofs.+step_group+step_half.{statement}
+use Rattle.groups.proofs.+step_group+step_half.Tie.{close}
 
 abbrev μ-step-group : Measures 2 step-group-kinds.ps ℕ
 μ-step-group κs a = a .1 .0 .f + a .1 .0 .f + 1

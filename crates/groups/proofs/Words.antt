@@ -1,0 +1,62 @@
+-- What a group writes: its one word, or its eight and then those of the card's own half. Assumes nothing.
+use mathlib.Core.Path.{_≡_, refl, sym, ap, _∙_}
+use mathlib.Core.List.{List, [], _∷_, _++_}
+use Prim.Native.Nat.{ℕ, zero, suc, _+_, _-_, _≤_, _<_}
+use native.Mathlib.Omega.{arith}
+use lib.ListN.{set}
+use lib.Seq.{sets}
+use Rattle.rules.specs.Parameters.{recordWords}
+use Rattle.rules.specs.Groups.{halfOf, halfFirst, halfCards, halfBroken, halfModulus, heardInHalf}
+use Rattle.rules.specs.OneBeat.{leafNext, levelNext, groupNext}
+use Rattle.rules.proofs.Halves.{half-broken, half-words}
+use Rattle.level.specs.declared.group.Group.{Group}
+use Rattle.level.specs.declared.Level.{Level}
+use Rattle.level.specs.Groups.{Fits, Split, heardBy, halfGroup}
+use Rattle.level.specs.Levels.{levelAfter, wordsOf}
+use Rattle.level.proofs.Places.{half-fits, half-heard}
+use Rattle.groups.specs.Halves.{halfNext}
+
+sets-eight : (out : List ℕ) (base : ℕ) (l : Level) (rest : List ℕ) → sets out base (wordsOf l ++ rest) ≡ sets (sets out base (wordsOf l)) (base + 8) rest
+sets-eight out base l rest =
+    let e : suc (suc (suc (suc (suc (suc (suc (suc base))))))) ≡ base + 8 = omega arith in
+    rw e
+
+module _ (n f c : ℕ) (hear : ℕ → ℕ → ℕ) (card base : ℕ) where
+  pub leaf-is : (out : List ℕ) (v : ℕ) → f ≡ 0 → v ≡ leafNext c hear
+      → (k : ℕ) → f < k → set out base v ≡ sets out base (groupNext k n f c hear card)
+  unfolding groupNext
+  leaf-is out v e r zero h = absurd (omega arith)
+  leaf-is out v e r (suc k) h = rw (e, r)
+
+-- the card's own half
+abbrev ownHalf : ℕ → ℕ → ℕ → (ℕ → ℕ → ℕ) → ℕ → List ℕ
+ownHalf k n f hear card =
+    groupNext k (halfCards (halfOf n card) n) (halfBroken (halfOf n card) f) (halfModulus (halfOf n card) f)
+    (heardInHalf (halfOf n card) n hear) (card - halfFirst (halfOf n card) n)
+
+pub node-is : (n f c : ℕ) (hear : ℕ → ℕ → ℕ) (card base : ℕ) (out now last : List ℕ) (l : Level) → (f ≡ 0 → ⊥) → l ≡ levelAfter n f c hear card
+    → now ≡ sets out base (wordsOf l)
+    → ((k : ℕ) → f ≤ k → last ≡ sets now (base + 8) (ownHalf k n f hear card))
+    → (k : ℕ) → f < k → last ≡ sets out base (groupNext k n f c hear card)
+unfolding groupNext levelNext levelAfter
+node-is n f c hear card base out now last l ne el eo half zero h = absurd (omega arith)
+node-is n zero c hear card base out now last l ne el eo half (suc k) h = absurd (ne refl)
+node-is n (suc f) c hear card base out now last l ne el eo half (suc k) h =
+    half k (omega arith)
+    ∙ rw (eo, el) (sym (sets-eight out base (levelAfter n (suc f) c hear card) (ownHalf k n (suc f) hear card)))
+
+-- what a half of a group writes as a group
+pub half-is : (recs : List ℕ) (g h : Group) (i card own k : ℕ) (out : List ℕ) → h ≡ halfGroup i g → halfOf (g .n) card ≡ i
+    → own ≡ card - halfFirst i (g .n)
+    → sets out (h .base) (groupNext k (h .n) (h .f) (h .c) (heardBy recs h) own) ≡ sets out (g .base + 8) (halfNext k recs g card)
+half-is recs g h i card own k out eh ei eo =
+    rw (eh, ei, eo)
+    (ap (λ (hear : ℕ → ℕ → ℕ). sets out (g .base + 8) (groupNext k (halfCards i (g .n)) (halfBroken i (g .f)) (halfModulus i (g .f)) hear (card - halfFirst i (g .n))))
+    (half-heard recs g i))
+
+-- a half fits where its group does, and its f is less by more than half
+pub half-smaller : {size : ℕ} (g h : Group) (i : ℕ) → Split size g → i < 2 → h ≡ halfGroup i g
+    → (h .f + h .f + 1 < g .f + g .f) × (Fits size h) × (h .base + recordWords (h .f) ≤ g .base + recordWords (g .f)) × (h .n ≡ halfCards i (g .n))
+half-smaller g h i s l e =
+    rw e
+    (omega (arith, half-broken i (g .f) l, s .some), half-fits s i l, omega (arith, half-words i (g .f) l (s .some)), refl)
