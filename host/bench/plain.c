@@ -6,7 +6,7 @@
 
 #include <string.h>
 
-enum { NONE = 65535, MOST_CARDS = 16, MOST_BROKEN = 5, TALLY = 128 };
+enum { NONE = 65535, TALLY = 128 };
 
 /* Where the words of a split group stand. */
 enum { SENT = 0, VOTE = 2, WAIT = 4, A = 6, B = 7, LEVEL = 8 };
@@ -46,15 +46,6 @@ static unsigned turn(unsigned f)
 static unsigned half_modulus(unsigned i, unsigned f)
 {
     return i == 0 ? 2 * turn(f) : 6 * turn(f);
-}
-
-static unsigned record_words(unsigned f)
-{
-    unsigned digits = 0;
-    for (; f > 0; f /= 2) {
-        digits++;
-    }
-    return 8 * digits + 1;
 }
 
 static Group half_of(const Group *g, unsigned i)
@@ -207,19 +198,14 @@ static void step_group(Group g, unsigned card, uint8_t *out)
 uint32_t plain_step(uint32_t n, uint32_t f, uint32_t c, uint32_t card, const uint8_t *records, size_t records_len,
                     uint8_t *out, size_t out_len)
 {
-    if (n == 0 || n > MOST_CARDS) {
-        return 1;
-    }
-    if (f > MOST_BROKEN || 3 * f >= n) {
-        return 2;
-    }
-    if (c < 2 || c > 65535) {
-        return 3;
+    uint32_t refusal = plain_refusal(n, f, c);
+    if (refusal != 0) {
+        return refusal;
     }
     if (card >= n) {
         return 4;
     }
-    unsigned words = record_words(f);
+    unsigned words = plain_words(f);
     if (records_len != 2 * n * words) {
         return 5;
     }
