@@ -24,7 +24,7 @@ typedef struct {
 static unsigned word(const Group *g, unsigned card, unsigned j)
 {
     const uint8_t *at = g->records + 2 * ((g->first + card) * g->words + g->base + j);
-    return at[0] + 256u * at[1];
+    return at[0] | (unsigned)at[1] << 8;
 }
 
 static void put_word(uint8_t *out, unsigned j, unsigned word)
