@@ -1,7 +1,7 @@
 //! Every command of README.md works as it is written there, and prints what is said there.
 
-use std::fs;
-use std::os::unix::fs::symlink;
+use std::fs::{self, Permissions};
+use std::os::unix::fs::{symlink, PermissionsExt};
 use std::path::{Path, PathBuf};
 use std::process::Command;
 
@@ -26,7 +26,7 @@ fn blocks(readme: &str) -> Vec<Block> {
     blocks
 }
 
-/// A folder with all that the repository's has, where the commands can leave files.
+/// A folder that looks like the repository's to the commands, where they can leave files.
 fn place() -> PathBuf {
     let place = Path::new(env!("CARGO_TARGET_TMPDIR")).join("readme");
     if place.exists() {
@@ -34,10 +34,11 @@ fn place() -> PathBuf {
     }
     fs::create_dir_all(place.join("home")).expect("the folder can be made");
     let root = root().canonicalize().expect("the repository is there");
-    for entry in fs::read_dir(&root).expect("the repository can be read") {
-        let name = entry.expect("an entry can be read").file_name();
-        symlink(root.join(&name), place.join(&name)).expect("a link can be made");
-    }
+    symlink(root.join("examples"), place.join("examples")).expect("a link can be made");
+    let launcher = place.join("tsendurkho");
+    let script = format!("#!/bin/sh\nexec '{}' \"$@\"\n", root.join("tsendurkho").display());
+    fs::write(&launcher, script).expect("the launcher's stand-in can be written");
+    fs::set_permissions(&launcher, Permissions::from_mode(0o755)).expect("it can be made a program");
     place
 }
 
