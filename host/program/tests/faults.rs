@@ -6,7 +6,7 @@ use std::io::{BufRead, BufReader, Write};
 use std::os::unix::io::OwnedFd;
 use std::os::unix::net::{UnixDatagram, UnixStream};
 use std::path::PathBuf;
-use std::process::{Command, ExitStatus, Output, Stdio};
+use std::process::{Child, Command, ExitStatus, Output, Stdio};
 use std::thread;
 
 use program::{launcher, root, send, wanted};
@@ -30,14 +30,19 @@ fn run() -> Command {
     command
 }
 
-/// What a command does with an input, of which it need not take all.
-fn finished(command: &mut Command, text: &[u8]) -> Output {
-    let mut child = command
+/// A command whose input and outputs are pipes.
+fn started(command: &mut Command) -> Child {
+    command
         .stdin(Stdio::piped())
         .stdout(Stdio::piped())
         .stderr(Stdio::piped())
         .spawn()
-        .expect("the launcher starts");
+        .expect("the launcher starts")
+}
+
+/// What a command does with an input, of which it need not take all.
+fn finished(command: &mut Command, text: &[u8]) -> Output {
+    let mut child = started(command);
     let mut input = child.stdin.take().expect("its input is a pipe");
     thread::scope(|scope| {
         scope.spawn(move || send(&mut input, text));
@@ -232,12 +237,7 @@ fn an_output_that_cannot_be_written() {
 
 /// How the launcher ends, and what is told, where nobody reads the output.
 fn unread(mut command: Command) -> (ExitStatus, String) {
-    let mut child = command
-        .stdin(Stdio::piped())
-        .stdout(Stdio::piped())
-        .stderr(Stdio::piped())
-        .spawn()
-        .expect("the launcher starts");
+    let mut child = started(&mut command);
     drop(child.stdout.take());
     let mut input = child.stdin.take().expect("its input is a pipe");
     assert!(!send(&mut input, &large_file()));
