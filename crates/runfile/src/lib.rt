@@ -82,15 +82,15 @@ fn take_start(h: Header, line: &[u8], table: &mut [u16], out: &mut [u8; 69]) -> 
     }
 }
 
-// Room for the largest table: 16·25.
-fn table_of_zeros() -> [u16; 400]
+// The largest table has 16·25 words.
+fn room_for_table() -> [u16; 400]
     ensures { λ r. ⌜ 400 ≡ length r ⌝ }
 {
     [0; 400]
 }
 
-// Room for the words of the longest line: 16·5·25.
-fn line_of_zeros() -> [u16; 2000]
+// The longest line has 16·5·25.
+fn room_for_line() -> [u16; 2000]
     ensures { λ r. ⌜ 2000 ≡ length r ⌝ }
 {
     [0; 2000]
@@ -113,7 +113,7 @@ fn beat_records(h: Header, sent: &[u16], table: &mut [u16])
     ensures { λ _. ⌜ now (table .exit) ≡ sets (now (table .entry)) 0 (recordsAfter (said h) (now (table .entry)) (now (sent .entry))) ⌝ }
 {
     let words = frame::start_words(h);
-    let mut next = table_of_zeros();
+    let mut next = room_for_table();
     rack::beat(
         h.n,
         h.f,
@@ -132,7 +132,7 @@ fn next_table(h: Header, line: &[u8], table: &mut [u16])
     ensures { λ _. ⌜ now (table .exit) ≡ sets (now (table .entry)) 0 (tableNext (said h) (now (table .entry)) (now (line .entry))) ⌝ }
 {
     let count = frame::beat_words(h);
-    let mut sent = line_of_zeros();
+    let mut sent = room_for_line();
     frame::read_words(line, count, &mut sent);
     beat_records(h, &sent[..count], table);
 }

@@ -23,10 +23,10 @@ held c =
     let s = w .before .before .before in
     length-take-le (w .start-words .result) (s .args .table .now) (omega (arith, small w, s .pre .2))
 
-blank : (c : tie.After-next) → length (take (c .before .before .before .start-words .result) (c .before .before .table-of-zeros .result)) ≡ c .before .before .before .start-words .result
+blank : (c : tie.After-next) → length (take (c .before .before .before .start-words .result) (c .before .before .room-for-table .result)) ≡ c .before .before .before .start-words .result
 blank c =
     let z = c .before .before in
-    length-take-le (z .before .start-words .result) (z .table-of-zeros .result) (omega (arith, small (z .before), z .table-of-zeros .ensures))
+    length-take-le (z .before .start-words .result) (z .room-for-table .result) (omega (arith, small (z .before), z .room-for-table .ensures))
 
 -- the records after the beat
 done : (c : tie.After-beat)
@@ -43,7 +43,7 @@ done c =
 
 -- they are the first words of the other table
 first : (c : tie.After-beat)
-    → take (c .before .before .before .before .start-words .result) (c .beat .last .1 .1 .1 .1 .1 .1 .0 ++ drop (c .before .before .before .before .start-words .result) (c .before .before .before .table-of-zeros .result))
+    → take (c .before .before .before .before .start-words .result) (c .beat .last .1 .1 .1 .1 .1 .1 .0 ++ drop (c .before .before .before .before .start-words .result) (c .before .before .before .room-for-table .result))
     ≡ c .beat .last .1 .1 .1 .1 .1 .1 .0
 first c = take-at (c .beat .last .1 .1 .1 .1 .1 .1 .0) _ (c .before .before .before .before .start-words .result) (done c .1)
 
@@ -55,7 +55,7 @@ beat-records-spec =
     (λ c κs. search needs)
     (λ c. omega (arith, small (c .before), c .before .before .before .before .pre .2))
     (λ c. sym (held c))
-    (λ c. omega (arith, small (c .before .before), c .before .table-of-zeros .ensures))
+    (λ c. omega (arith, small (c .before .before), c .before .room-for-table .ensures))
     (λ c. sym (blank c))
     (λ c κs. search needs)
     (λ c. simp length-append (omega (arith, done (c .before) .1)))

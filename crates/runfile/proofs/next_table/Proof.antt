@@ -18,7 +18,7 @@ small c = let s = c .before .before .before in rw (c .beat-words .ensures) (sent
 read-words-requires : tie.Need-read-words-requires
 read-words-requires c κs =
     let w = c .before .before in
-    (rw (w .beat-words .ensures) (w .before .before .before .pre .1), omega (arith, small w, c .before .line-of-zeros .ensures))
+    (rw (w .beat-words .ensures) (w .before .before .before .pre .1), omega (arith, small w, c .before .room-for-line .ensures))
 
 -- the words that are read are the first of the buffer
 first : (c : tie.After-read-words)
@@ -27,7 +27,7 @@ first c =
     let w = c .before .before .before in
     let line = w .before .before .before .args .line .now in
     rw (c .read-words .ensures)
-    (first-taken _ (wordsAt line 4 (w .beat-words .result)) (w .beat-words .result) (words-length line 4 (w .beat-words .result)) (omega (arith, small w, c .before .before .line-of-zeros .ensures)))
+    (first-taken _ (wordsAt line 4 (w .beat-words .result)) (w .beat-words .result) (words-length line 4 (w .beat-words .result)) (omega (arith, small w, c .before .before .room-for-line .ensures)))
 
 size : (c : tie.After-read-words) → length (take (c .before .before .before .beat-words .result) (c .read-words .last .1 .1 .0)) ≡ c .before .before .before .beat-words .result
 size c = rw (first c) (words-length _ 4 _)
@@ -40,7 +40,7 @@ next-table-spec =
     (λ c κs. search needs)
     (λ c. search needs)
     read-words-requires
-    (λ c. omega (arith, small (c .before .before .before .before), c .before .read-words .kept .1 .1 .0, c .before .before .before .line-of-zeros .ensures))
+    (λ c. omega (arith, small (c .before .before .before .before), c .before .read-words .kept .1 .1 .0, c .before .before .before .room-for-line .ensures))
     (λ c. sym (size (c .before .before)))
     (λ c κs.
     let r = c .before .before .before in
