@@ -62,6 +62,30 @@ sent-never words m n x l = ⊎-elim
     (λ z. omega arith)
     (lt-or-le 0 (countBelow n (λ (u : ℕ). same (readVote m (words u)) (Count x))))
 
+-- enough cards sent a value where few enough sent another
+pub enough-rest : (n f others cards : ℕ) → others + cards ≡ n → leb others f ≡ enough n f cards
+unfolding enough
+enough-rest n f others cards e = ⊎-elim
+    (λ (l : others ≤ f). rw (le-leb others f l, le-leb n (cards + f) (omega arith)))
+    (λ (l : f < others). rw (lt-leb others f l, lt-leb n (cards + f) (omega arith)))
+    (le-or-lt others f)
+
+pub count-zero : (p : ℕ → Bool) → countBelow 0 p ≡ 0
+unfolding countBelow
+count-zero p = refl
+
+-- where too many of the first u cards fail a test, the cards that pass it are never enough; at the last card they are
+pub never-enough : (p : ℕ → Bool) (n f u : ℕ) → u ≤ n → countBelow u p + f < u → enough n f (countBelow n p) ≡ false
+unfolding enough
+never-enough p n f u l few =
+    let e : u + (n - u) ≡ n = omega arith in
+    let s : countBelow n p ≡ countBelow u p + countBelow (n - u) (λ (v : ℕ). p (u + v)) = rw e at (count-split u (n - u) p) in
+    lt-leb n (countBelow n p + f) (omega (arith, count-le (n - u) (λ (v : ℕ). p (u + v))))
+
+pub enough-of-all : (p : ℕ → Bool) (n f u : ℕ) → u ≡ n → u ≤ countBelow u p + f → enough n f (countBelow n p) ≡ true
+unfolding enough
+enough-of-all p n f u e l = rw (← e) (le-leb u (countBelow u p + f) l)
+
 -- one card more
 pub sent-yes : (heard : ℕ → Vote) (u : ℕ) (y : Vote) → heard u ≡ y → sentBy (u + 1) heard y ≡ sentBy u heard y + 1
 unfolding sentBy

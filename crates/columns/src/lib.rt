@@ -5,7 +5,7 @@ ghost use Prim.Native.Nat.{ℕ, _+_, _*_, _<_, _≤_};
 ghost use lib.ListN.{length};
 ghost use Rattle.rules.specs.Counting.{countBelow};
 ghost use Rattle.rules.specs.Groups.{readVote};
-ghost use Rattle.rules.specs.OneBeat.{sentBy, mostFrequent, vote, supported};
+ghost use Rattle.rules.specs.OneBeat.{enough, sentBy, mostFrequent, vote, supported};
 ghost use Rattle.columns.specs.Columns.{Within, wordIn, votesIn, lies, leader};
 
 // The word `at` of each of n cards, from the card `first` on, in a table of `cards` records of w words.
@@ -80,6 +80,42 @@ pub fn sent_by(recs: &[u16], col: Column, m: u32, y: Vote) -> usize
             }
         }
         Vote::None => col.n - between(recs, col, 0, m),
+    }
+}
+
+// Do all cards of the column but `spare` at most say a word from `low` on and below `high`?
+fn all_but(recs: &[u16], col: Column, spare: usize, low: u32, high: u32) -> bool
+    requires { ⌜ Within (length (now recs)) col ⌝ }
+    ensures { λ r. ⌜ r ≡ enough (col .n) spare (countBelow (col .n) (λ (u : ℕ). lies low high (wordIn (now (recs .entry)) col u))) ⌝ }
+{
+    let n = col.n;
+    let mut left = spare;
+    for u in 0..n {
+        if !lies(low, high, said(recs, col, u)) {
+            if left == 0 {
+                return false;
+            }
+            left -= 1;
+        }
+    }
+    true
+}
+
+// Did at least n-f cards of the column send y?
+pub fn sent_enough(recs: &[u16], col: Column, f: usize, m: u32, y: Vote) -> bool
+    requires { ⌜ Within (length (now recs)) col ⌝ }
+    ensures { λ r. ⌜ r ≡ enough (col .n) f (sentBy (col .n) (votesIn m (now (recs .entry)) col) y) ⌝ }
+{
+    match y {
+        Vote::Count(x) => {
+            let value = x as u32;
+            if value < m {
+                all_but(recs, col, f, value, value + 1)
+            } else {
+                col.n <= f
+            }
+        }
+        Vote::None => between(recs, col, 0, m) <= f,
     }
 }
 

@@ -6,7 +6,7 @@ ghost use mathlib.Core.Path.{_≡_};
 ghost use mathlib.Core.Bool.{Bool};
 ghost use Prim.Native.Nat.{ℕ, _+_, _*_, _/_, _<_, _≤_};
 ghost use lib.ListN.{length};
-ghost use Rattle.rules.specs.OneBeat.{enough, sentBy, obeyed, step0, step1, step2, gained, threeSteps};
+ghost use Rattle.rules.specs.OneBeat.{obeyed, step0, step1, step2, gained, threeSteps};
 ghost use Rattle.columns.specs.Columns.{Within, votesIn};
 ghost use Rattle.steps.specs.Standings.{standing};
 
@@ -16,21 +16,13 @@ pub struct Stand {
     pub b: bool,
 }
 
-// Did at least n-f cards of the column send y?
-fn sent_enough(recs: &[u16], col: Column, f: u32, c: u32, y: Vote) -> bool
-    requires { ⌜ (Within (length (now recs)) col) × (f < 256) ⌝ }
-    ensures { λ r. ⌜ r ≡ enough (col .n) f (sentBy (col .n) (votesIn c (now (recs .entry)) col) y) ⌝ }
-{
-    col.n <= columns::sent_by(recs, col, c, y) + f as usize
-}
-
 // "Step 0: if fewer than n-f cards sent this card's a, a becomes none. b stays."
 fn step_0(recs: &[u16], col: Column, f: u32, c: u32, s: Stand) -> Stand
     requires { ⌜ (Within (length (now recs)) col) × (f < 256) ⌝ }
     ensures { λ r. ⌜ standing r ≡ step0 (col .n) f (votesIn c (now (recs .entry)) col) (standing s) ⌝ }
 {
     let a = s.a;
-    if sent_enough(recs, col, f, c, a) {
+    if columns::sent_enough(recs, col, f as usize, c, a) {
         s
     } else {
         Stand {
@@ -47,7 +39,7 @@ fn step_1(recs: &[u16], col: Column, f: u32, c: u32, s: Stand) -> Stand
     ensures { λ r. ⌜ standing r ≡ step1 (col .n) f c (votesIn c (now (recs .entry)) col) (standing s) ⌝ }
 {
     let a = s.a;
-    let b = sent_enough(recs, col, f, c, a);
+    let b = columns::sent_enough(recs, col, f as usize, c, a);
     Stand {
         a: columns::smallest_supported(recs, col, f as usize, c),
         b: b,

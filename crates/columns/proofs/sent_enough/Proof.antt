@@ -1,0 +1,45 @@
+-- `columns::sent_enough` meets its contract, case by case. Assumes nothing.
+use borrow.Author.Needs.{needs}
+use mathlib.Core.Path.{_≡_, ap, _∙_}
+use Prim.Native.Nat.{ℕ}
+use native.Mathlib.Omega.{arith}
+use Rattle.rules.specs.OneBeat.{enough}
+use Rattle.columns.specs.Columns.{wordIn}
+use Rattle.columns.proofs.Sent.{sent-x, sent-none, sent-never, enough-rest}
+use Rattle.columns.proofs.sent_enough.Statement.{statement}
+use Rattle.columns.proofs.sent_enough.Tie as tie
+
+-- the words of the column
+abbrev words : tie.Start → ℕ → ℕ
+words s = wordIn (s .args .recs .now) (s .args .col)
+
+a-count : tie.Need-returns
+a-count c =
+    let y = c .before .before .before .y in
+    let s = c .before .before .before .before .before .before in
+    rw (y .given .1) (c .all-but .ensures ∙ ap (enough (s .args .col .n) (s .args .f)) (sent-x (words s) (s .args .m) (s .args .col .n) (y .given .0 .0) (omega arith)))
+
+no-count : tie.Need-returns-2
+no-count c =
+    let y = c .before .before .before .y in
+    let s = c .before .before .before .before .before .before in
+    rw (y .given .1, sent-never (words s) (s .args .m) (s .args .col .n) (y .given .0 .0) (c .before .if1 .left)) (enough-rest (s .args .col .n) (s .args .f) (s .args .col .n) 0 (omega arith))
+
+none : tie.Need-returns-3
+none c =
+    let s = c .before .before .before .before in
+    rw (c .before .enum-told .given .1) (enough-rest _ (s .args .f) _ _ (omega (arith, c .between .ensures .0, sent-none (words s) (s .args .m) (s .args .col .n))))
+
+pub sent-enough-spec : {M : Type 1} → statement M
+sent-enough-spec =
+    tie.close
+    (tie.spec
+    (λ c. search needs)
+    (λ c. search needs)
+    (λ c. search needs)
+    (λ c κs. search needs)
+    (λ c. search needs)
+    (λ c κs. search needs)
+    a-count
+    no-count
+    none)
