@@ -1,52 +1,50 @@
--- `steps::pointer::phase_of` meets its contract. Assumes nothing.
+-- `steps::pointer::phase_of` meets its contract: the own pointer, or the other. Assumes nothing.
 use borrow.Author.Needs.{needs}
 use borrow.Author.Tests.{eq-eqb, ne-eqb}
-use Rattle.rules.specs.OneBeat.{phase}
+use Rattle.rules.specs.Counting.{orElse}
+use Rattle.rules.specs.OneBeat.{pointer, phase}
 use Rattle.steps.proofs.pointer.phase_of.Statement.{statement}
 use Rattle.steps.proofs.pointer.phase_of.Tie as tie
 
-zeroth : tie.Need-returns
-unfolding phase
-zeroth c =
-    let p = c .before .before .before .before in
-    rw (
-      eq-eqb _ _ (c .before .before .before .if1 .taken),
-      c .count-or-0 .ensures,
-      c .before .at-pointer .ensures,
-      c .before .before .or-else .ensures,
-      p .pointer-of2 .ensures,
-      p .before .pointer-of .ensures,
-      ← (p .before .before .pre .0),
-    )
+zero-own : tie.Need-returns
+unfolding phase pointer orElse
+zero-own c =
+    let s = c .before .before .before .before in
+    rw (eq-eqb _ _ (c .before .before .before .if1 .taken), c .phase-by .ensures, ← (s .pre .0), c .before .enum-told .given .1)
 
-first : tie.Need-returns-2
-unfolding phase
-first c =
-    let p = c .before .before .before .before in
-    rw (
-      ne-eqb _ _ (c .before .before .before .if1 .left),
-      c .count-or-02 .ensures,
-      c .before .at-pointer2 .ensures,
-      c .before .before .or-else2 .ensures,
-      p .pointer-of2 .ensures,
-      p .before .pointer-of .ensures,
-      ← (p .before .before .pre .0),
-    )
+zero-other : tie.Need-returns-2
+unfolding phase pointer orElse
+zero-other c =
+    let s = c .before .before .before .before in
+    rw (eq-eqb _ _ (c .before .before .before .if1 .taken), c .phase-by2 .ensures, ← (s .pre .0), c .before .enum-told2 .given .1)
+
+one-own : tie.Need-returns-3
+unfolding phase pointer orElse
+one-own c =
+    let s = c .before .before .before .before in
+    rw (ne-eqb _ _ (c .before .before .before .if1 .left), c .phase-by3 .ensures, ← (s .pre .0), c .before .enum-told3 .given .1)
+
+one-other : tie.Need-returns-4
+unfolding phase pointer orElse
+one-other c =
+    let s = c .before .before .before .before in
+    rw (ne-eqb _ _ (c .before .before .before .if1 .left), c .phase-by4 .ensures, ← (s .pre .0), c .before .enum-told4 .given .1)
 
 pub phase-of-spec : {M : Type 1} → statement M
 phase-of-spec =
     tie.close
     (tie.spec
+    (λ c. search needs)
+    (λ c κs. search needs)
+    (λ c. search needs)
+    (λ c. search needs)
+    (λ c κs. search needs)
+    (λ c. search needs)
+    (λ c. search needs)
     (λ c κs. search needs)
     (λ c. search needs)
     (λ c κs. search needs)
-    (λ c κs. search needs)
-    (λ c κs. search needs)
-    (λ c κs. search needs)
-    (λ c. search needs)
-    (λ c κs. search needs)
-    (λ c κs. search needs)
-    (λ c κs. search needs)
-    (λ c. search needs)
-    zeroth
-    first)
+    zero-own
+    zero-other
+    one-own
+    one-other)
