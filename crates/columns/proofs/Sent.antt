@@ -63,16 +63,35 @@ sent-never words m n x l = ⊎-elim
     (lt-or-le 0 (countBelow n (λ (u : ℕ). same (readVote m (words u)) (Count x))))
 
 -- enough cards sent a value where few enough sent another
-pub enough-rest : (n f others cards : ℕ) → others + cards ≡ n → leb others f ≡ enough n f cards
+pub enough-rest : (n f others cards : ℕ) → others + cards ≡ n → not (ltb f others) ≡ enough n f cards
 unfolding enough
 enough-rest n f others cards e = ⊎-elim
-    (λ (l : others ≤ f). rw (le-leb others f l, le-leb n (cards + f) (omega arith)))
-    (λ (l : f < others). rw (lt-leb others f l, lt-leb n (cards + f) (omega arith)))
+    (λ (l : others ≤ f). rw (le-ltb f others l, le-leb n (cards + f) (omega arith)))
+    (λ (l : f < others). rw (lt-ltb f others l, lt-leb n (cards + f) (omega arith)))
     (le-or-lt others f)
+
+-- of no card at all that is asked only where all may be broken
+pub enough-zero : (n f : ℕ) → leb n f ≡ enough n f 0
+unfolding enough
+enough-zero n f = let e : 0 + f ≡ f = omega arith in rw e
 
 pub count-zero : (p : ℕ → Bool) → countBelow 0 p ≡ 0
 unfolding countBelow
 count-zero p = refl
+
+-- the further one goes, the more there are
+count-grows : (p : ℕ → Bool) (u n : ℕ) → u ≤ n → countBelow u p ≤ countBelow n p
+count-grows p u n l =
+    let e : u + (n - u) ≡ n = omega arith in
+    let s : countBelow n p ≡ countBelow u p + countBelow (n - u) (λ (v : ℕ). p (u + v)) = rw e at (count-split u (n - u) p) in
+    omega arith
+
+-- where too many of the first u cards pass a test, too many do; at the last card they are told
+pub more-already : (p : ℕ → Bool) (n few u : ℕ) → u ≤ n → few < countBelow u p → ltb few (countBelow n p) ≡ true
+more-already p n few u l more = lt-ltb few (countBelow n p) (omega (arith, count-grows p u n l))
+
+pub never-more : (p : ℕ → Bool) (n few u : ℕ) → u ≡ n → countBelow u p ≤ few → ltb few (countBelow n p) ≡ false
+never-more p n few u e l = rw (← e) (le-ltb few (countBelow u p) l)
 
 -- where too many of the first u cards fail a test, the cards that pass it are never enough; at the last card they are
 pub never-enough : (p : ℕ → Bool) (n f u : ℕ) → u ≤ n → countBelow u p + f < u → enough n f (countBelow n p) ≡ false
@@ -106,14 +125,9 @@ pub sent-le : (heard : ℕ → Vote) (u : ℕ) (y : Vote) → sentBy u heard y �
 unfolding sentBy
 sent-le heard u y = count-le u (λ (v : ℕ). same (heard v) y)
 
--- the further one goes, the more there are
 pub sent-grows : (heard : ℕ → Vote) (u n : ℕ) (y : Vote) → u ≤ n → sentBy u heard y ≤ sentBy n heard y
 unfolding sentBy
-sent-grows heard u n y l =
-    let p : ℕ → Bool = λ (v : ℕ). same (heard v) y in
-    let e : u + (n - u) ≡ n = omega arith in
-    let s : countBelow n p ≡ countBelow u p + countBelow (n - u) (λ (v : ℕ). p (u + v)) = rw e at (count-split u (n - u) p) in
-    omega arith
+sent-grows heard u n y l = count-grows (λ (v : ℕ). same (heard v) y) u n l
 
 -- where one card more leaves x short of enough votes, it leaves every value so
 pub still-short : (heard : ℕ → Vote) (n f m u x : ℕ) → heard u ≡ Count x → sentBy (u + 1) heard (Count x) + f < n

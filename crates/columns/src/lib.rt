@@ -2,6 +2,7 @@ use rules::Vote;
 ghost use mathlib.Core.Path.{_≡_};
 ghost use mathlib.Core.Bool.{Bool};
 ghost use Prim.Native.Nat.{ℕ, _+_, _*_, _<_, _≤_};
+ghost use lib.Dec.{ltb};
 ghost use lib.ListN.{length};
 ghost use Rattle.rules.specs.Counting.{countBelow};
 ghost use Rattle.rules.specs.Groups.{readVote};
@@ -50,37 +51,22 @@ fn lies(low: u32, high: u32, word: u16) -> bool
     (word as u32) < high
 }
 
-// How many cards of the column said a word from `low` on and below `high`.
-fn between(recs: &[u16], col: Column, low: u32, high: u32) -> usize
+// Do more than `few` cards of the column say a word from `low` on and below `high`?
+fn more_than(recs: &[u16], col: Column, few: usize, low: u32, high: u32) -> bool
     requires { ⌜ Within (length (now recs)) col ⌝ }
-    ensures { λ r. ⌜ (r ≡ countBelow (col .n) (λ (u : ℕ). lies low high (wordIn (now (recs .entry)) col u))) × (r ≤ col .n) ⌝ }
+    ensures { λ r. ⌜ r ≡ ltb few (countBelow (col .n) (λ (u : ℕ). lies low high (wordIn (now (recs .entry)) col u))) ⌝ }
 {
     let n = col.n;
-    let mut k: usize = 0;
+    let mut left = few;
     for u in 0..n {
         if lies(low, high, said(recs, col, u)) {
-            k += 1;
-        }
-    }
-    k
-}
-
-// How many cards of the column sent y. Who sent no count sent none.
-pub fn sent_by(recs: &[u16], col: Column, m: u32, y: Vote) -> usize
-    requires { ⌜ Within (length (now recs)) col ⌝ }
-    ensures { λ r. ⌜ (r ≡ sentBy (col .n) (votesIn m (now (recs .entry)) col) y) × (r ≤ col .n) ⌝ }
-{
-    match y {
-        Vote::Count(x) => {
-            let value = x as u32;
-            if value < m {
-                between(recs, col, value, value + 1)
-            } else {
-                0
+            if left == 0 {
+                return true;
             }
+            left -= 1;
         }
-        Vote::None => col.n - between(recs, col, 0, m),
     }
+    false
 }
 
 // Do all cards of the column but `spare` at most say a word from `low` on and below `high`?
@@ -101,7 +87,7 @@ fn all_but(recs: &[u16], col: Column, spare: usize, low: u32, high: u32) -> bool
     true
 }
 
-// Did at least n-f cards of the column send y?
+// Did at least n-f cards of the column send y? Who sent no count sent none.
 pub fn sent_enough(recs: &[u16], col: Column, f: usize, m: u32, y: Vote) -> bool
     requires { ⌜ Within (length (now recs)) col ⌝ }
     ensures { λ r. ⌜ r ≡ enough (col .n) f (sentBy (col .n) (votesIn m (now (recs .entry)) col) y) ⌝ }
@@ -115,7 +101,7 @@ pub fn sent_enough(recs: &[u16], col: Column, f: usize, m: u32, y: Vote) -> bool
                 col.n <= f
             }
         }
-        Vote::None => between(recs, col, 0, m) <= f,
+        Vote::None => !more_than(recs, col, f, 0, m),
     }
 }
 
@@ -181,10 +167,9 @@ pub fn smallest_supported(recs: &[u16], col: Column, f: usize, c: u32) -> Vote
     let n = col.n;
     let mut best = c;
     for u in 0..n {
-        let word = said(recs, col, u);
-        let x = word as u32;
+        let x = said(recs, col, u) as u32;
         if x < best {
-            if f < sent_by(recs, col, c, Vote::Count(word)) {
+            if more_than(recs, col, f, x, x + 1) {
                 best = x;
             }
         }

@@ -5,7 +5,7 @@ use Prim.Native.Nat.{ℕ}
 use native.Mathlib.Omega.{arith}
 use Rattle.rules.specs.OneBeat.{enough}
 use Rattle.columns.specs.Columns.{wordIn}
-use Rattle.columns.proofs.Sent.{sent-x, sent-none, sent-never, enough-rest}
+use Rattle.columns.proofs.Sent.{sent-x, sent-none, sent-never, enough-rest, enough-zero}
 use Rattle.columns.proofs.sent_enough.Statement.{statement}
 use Rattle.columns.proofs.sent_enough.Tie as tie
 
@@ -23,12 +23,12 @@ no-count : tie.Need-returns-2
 no-count c =
     let y = c .before .before .before .y in
     let s = c .before .before .before .before .before .before in
-    rw (y .given .1, sent-never (words s) (s .args .m) (s .args .col .n) (y .given .0 .0) (c .before .if1 .left)) (enough-rest (s .args .col .n) (s .args .f) (s .args .col .n) 0 (omega arith))
+    rw (y .given .1, sent-never (words s) (s .args .m) (s .args .col .n) (y .given .0 .0) (c .before .if1 .left)) (enough-zero (s .args .col .n) (s .args .f))
 
 none : tie.Need-returns-3
 none c =
     let s = c .before .before .before .before in
-    rw (c .before .enum-told .given .1) (enough-rest _ (s .args .f) _ _ (omega (arith, c .between .ensures .0, sent-none (words s) (s .args .m) (s .args .col .n))))
+    rw (c .before .enum-told .given .1, c .more-than .ensures) (enough-rest (s .args .col .n) (s .args .f) _ _ (sent-none (words s) (s .args .m) (s .args .col .n)))
 
 pub sent-enough-spec : {M : Type 1} → statement M
 sent-enough-spec =

@@ -6,13 +6,15 @@ use mathlib.Core.Logic.{⊎-elim}
 use Prim.Native.Nat.{ℕ, _+_, _-_, _≤_, _<_}
 use native.Mathlib.Omega.{arith}
 use borrow.Author.Count.{below-more}
+use borrow.Author.Tests.{ltb-true, ltb-false}
 use Rattle.rules.specs.declared.Vote.{Vote}
 use Rattle.rules.specs.declared.Vote.the-variants.{Count, None}
+use Rattle.rules.specs.Counting.{countBelow}
 use Rattle.rules.specs.Groups.{readVote}
 use Rattle.rules.specs.OneBeat.{sentBy}
 use Rattle.rules.proofs.Votes.{read-is}
-use Rattle.columns.specs.Columns.{votesIn, wordIn}
-use Rattle.columns.proofs.Sent.{supported-found, supported-none}
+use Rattle.columns.specs.Columns.{votesIn, wordIn, lies}
+use Rattle.columns.proofs.Sent.{sent-x, supported-found, supported-none}
 use Rattle.columns.proofs.smallest_supported.Statement.{statement}
 use Rattle.columns.proofs.smallest_supported.Tie as tie
 
@@ -31,13 +33,16 @@ loop-again c =
     let votes = votesIn (a .c) (a .recs .now) (a .col) in
     let word = wordIn (a .recs .now) (a .col) in
     let u = l .loop .u in
-    let e : c .before .said .result ≡ word u = c .before .said .ensures in
+    let x = c .before .said .result in
+    let e : x ≡ word u = c .before .said .ensures in
+    let times = countBelow (a .col .n) (λ (v : ℕ). lies x (x + 1) (word v)) in
+    let sent : x < a .c → times ≡ sentBy (a .col .n) votes (Count x) = sent-x word (a .c) (a .col .n) x in
     ⊎-elim
     (λ w. rw (w .3) (
       omega arith,
       omega arith,
-      λ k. omega (arith, w .1 .ensures .0, w .2 .taken),
-      below-more (λ (v : ℕ). word v < c .before .said .result → sentBy (a .col .n) votes (Count (word v)) ≤ a .f) u
+      λ k. omega (arith, sent k, ltb-true (a .f) times (sym (w .1 .ensures) ∙ w .2 .taken)),
+      below-more (λ (v : ℕ). word v < x → sentBy (a .col .n) votes (Count (word v)) ≤ a .f) u
           (λ v lv k. l .loop .inv .3 v lv (omega arith)) (λ k. absurd (omega arith)),
     ))
     (⊎-elim
@@ -46,7 +51,7 @@ loop-again c =
       l .loop .inv .1,
       l .loop .inv .2,
       below-more (λ (v : ℕ). word v < l .loop .best → sentBy (a .col .n) votes (Count (word v)) ≤ a .f) u
-          (l .loop .inv .3) (λ k. rw (← e) (omega (arith, w .1 .ensures .0, w .2 .left))),
+          (l .loop .inv .3) (λ k. rw (← e) (omega (arith, sent (omega arith), ltb-false (a .f) times (sym (w .1 .ensures) ∙ w .2 .left)))),
     ))
     (λ w. rw (w .1) (
       omega arith,
@@ -92,6 +97,7 @@ smallest-supported-spec =
     μ-loop
     (λ c. (omega arith, omega arith, λ l. absurd (omega arith), λ v l. absurd (omega arith)))
     (λ c κs. search needs)
+    (λ c. search needs)
     (λ c. search needs)
     (λ c κs. search needs)
     (λ c. omega arith)
