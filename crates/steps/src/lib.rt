@@ -22,14 +22,12 @@ fn step_0(recs: &[u16], col: Column, f: u32, c: u32, s: Stand) -> Stand
     ensures { λ r. ⌜ standing r ≡ step0 (col .n) f (votesIn c (now (recs .entry)) col) (standing s) ⌝ }
 {
     let a = s.a;
-    if columns::sent_enough(recs, col, f as usize, c, a) {
-        s
+    let kept = if columns::sent_enough(recs, col, f as usize, c, a) {
+        a
     } else {
-        Stand {
-            a: Vote::None,
-            b: s.b,
-        }
-    }
+        Vote::None
+    };
+    Stand { a: kept, b: s.b }
 }
 
 // "Step 1: b becomes 1 if at least n-f cards sent this card's old a, else 0 .. a becomes the smallest count heard more than f
