@@ -7,7 +7,7 @@ use Rattle.rules.specs.Parameters.{recordWords, badModulus}
 use Rattle.rules.specs.Refusals.{paramsRefusal, shapeRefusal}
 use Rattle.rules.specs.Calls.{rowOf}
 use Rattle.rules.proofs.Determined.{only-one}
-use Rattle.params.specs.Answers.{entryOf, answerTo}
+use Rattle.params.specs.Answers.{rowRead, answerTo}
 use Rattle.params.specs.declared.Parameters.{Parameters}
 
 pub parameters-determined : (n f : ℕ) (x y : Parameters) → x ≡ answerTo n f → y ≡ answerTo n f → x ≡ y
@@ -26,7 +26,7 @@ pub record-words-determined : (f x y : ℕ) → x ≡ recordWords f → y ≡ re
 record-words-determined f x y p q = only-one p q
 
 -- the table's column of W holds the record size, for every f
-pub table-words : (f : ℕ) → entryOf f 4 ≡ recordWords f
-unfolding entryOf rowOf
+pub table-words : (f : ℕ) → rowRead f .words ≡ recordWords f
+unfolding rowOf
 table-words zero = refl
 table-words (suc f) = refl

@@ -1,7 +1,5 @@
 -- The answer's struct, by the rules' own row of parameters. Assumes nothing.
 use Prim.Native.Nat.{ℕ}
-use mathlib.Core.List.{List, [], _∷_}
-use lib.ListN.{getD}
 use Rattle.rules.specs.Calls.{Parameters, rowOf, paramsAnswer}
 use Rattle.rules.specs.Refusals.{paramsRefusal}
 use Rattle.params.specs.declared.Row.{Row}
@@ -20,13 +18,6 @@ rowFrom p =
 
 abbrev pub rowRead : ℕ → Row
 rowRead f = rowFrom (rowOf f)
-
--- the entries of a row, in the table's order
-abbrev pub columnsOf : Parameters → List ℕ
-columnsOf p = p .turn ∷ p .c0 ∷ p .c1 ∷ p .restart ∷ p .words ∷ p .beats ∷ []
-
-unfoldable pub entryOf : ℕ → ℕ → ℕ
-entryOf f column = getD (columnsOf (rowOf f)) column 0
 
 abbrev pub answerTo : ℕ → ℕ → Answer
 answerTo n f = record { refusal = paramsRefusal n f; row = rowFrom (paramsAnswer n f) }

@@ -1,8 +1,8 @@
 ghost use mathlib.Core.Path.{_≡_};
-ghost use Prim.Native.Nat.{ℕ, _+_, _*_, _<_, _≤_};
+ghost use Prim.Native.Nat.{_≤_};
 ghost use Rattle.rules.specs.Parameters.{badModulus, mostBroken, recordWords};
 ghost use Rattle.rules.specs.Refusals.{paramsRefusal, shapeRefusal};
-ghost use Rattle.params.specs.Answers.{entryOf, rowRead, answerTo};
+ghost use Rattle.params.specs.Answers.{rowRead, answerTo};
 
 const MOST_CARDS: u32 = 16;
 
@@ -86,25 +86,19 @@ pub fn record_words(f: u32) -> u32
     8 * (32 - u32::leading_zeros(f)) + 1
 }
 
-fn entry(f: u32, column: usize) -> u16
-    requires { ⌜ (f ≤ mostBroken) × (column < 6) ⌝ }
-    ensures { λ r. ⌜ r ≡ entryOf f column ⌝ }
-{
-    TABLE[f as usize][column]
-}
-
 // The row of an allowed f.
 pub fn row_of(f: u32) -> Row
     requires { ⌜ f ≤ mostBroken ⌝ }
     ensures { λ r. ⌜ r ≡ rowRead f ⌝ }
 {
+    let row = TABLE[f as usize];
     Row {
-        turn: entry(f, 0),
-        c0: entry(f, 1),
-        c1: entry(f, 2),
-        restart: entry(f, 3),
-        words: entry(f, 4),
-        beats: entry(f, 5),
+        turn: row[0],
+        c0: row[1],
+        c1: row[2],
+        restart: row[3],
+        words: row[4],
+        beats: row[5],
     }
 }
 
