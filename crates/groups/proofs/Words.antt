@@ -34,25 +34,16 @@ ownHalf k n f hear card =
     groupNext k (halfCards (halfOf n card) n) (halfBroken (halfOf n card) f) (halfModulus (halfOf n card) f)
     (heardInHalf (halfOf n card) n hear) (card - halfFirst (halfOf n card) n)
 
-pub node-is : (n f c : ℕ) (hear : ℕ → ℕ → ℕ) (card base : ℕ) (out now last : List ℕ) (l : Level) → (f ≡ 0 → ⊥) → l ≡ levelAfter n f c hear card
+pub node-is : (n f c : ℕ) (hear : ℕ → ℕ → ℕ) (card base : ℕ) (out now last : List ℕ) (l : Level) → 1 ≤ f → l ≡ levelAfter n f c hear card
     → now ≡ sets out base (wordsOf l)
     → ((k : ℕ) → f ≤ k → last ≡ sets now (base + 8) (ownHalf k n f hear card))
     → (k : ℕ) → f < k → last ≡ sets out base (groupNext k n f c hear card)
 unfolding groupNext levelNext levelAfter
-node-is n f c hear card base out now last l ne el eo half zero h = absurd (omega arith)
-node-is n zero c hear card base out now last l ne el eo half (suc k) h = absurd (ne refl)
-node-is n (suc f) c hear card base out now last l ne el eo half (suc k) h =
+node-is n f c hear card base out now last l some el eo half zero h = absurd (omega arith)
+node-is n zero c hear card base out now last l some el eo half (suc k) h = absurd (omega arith)
+node-is n (suc f) c hear card base out now last l some el eo half (suc k) h =
     half k (omega arith)
     ∙ rw (eo, el) (sym (sets-eight out base (levelAfter n (suc f) c hear card) (ownHalf k n (suc f) hear card)))
-
--- what a half of a group writes as a group
-pub half-is : (recs : List ℕ) (g h : Group) (i card own k : ℕ) (out : List ℕ) → h ≡ halfGroup i g → halfOf (g .n) card ≡ i
-    → own ≡ card - halfFirst i (g .n)
-    → sets out (h .base) (groupNext k (h .n) (h .f) (h .c) (heardBy recs h) own) ≡ sets out (g .base + 8) (halfNext k recs g card)
-half-is recs g h i card own k out eh ei eo =
-    rw (eh, ei, eo)
-    (ap (λ (hear : ℕ → ℕ → ℕ). sets out (g .base + 8) (groupNext k (halfCards i (g .n)) (halfBroken i (g .f)) (halfModulus i (g .f)) hear (card - halfFirst i (g .n))))
-    (half-heard recs g i))
 
 -- a half fits where its group does, and its f is less by more than half
 pub half-smaller : {size : ℕ} (g h : Group) (i : ℕ) → Split size g → i < 2 → h ≡ halfGroup i g
@@ -60,3 +51,14 @@ pub half-smaller : {size : ℕ} (g h : Group) (i : ℕ) → Split size g → i <
 half-smaller g h i s l e =
     rw e
     (omega (arith, half-broken i (g .f) l, s .some), half-fits s i l, omega (arith, half-words i (g .f) l (s .some)), refl)
+
+-- what a half writes as a group is what its group's card has of it
+pub half-is : {size : ℕ} (recs : List ℕ) (g h : Group) (i card own : ℕ) (out last : List ℕ) → Split size g → i < 2 → h ≡ halfGroup i g
+    → halfOf (g .n) card ≡ i → own ≡ card - halfFirst i (g .n)
+    → ((k : ℕ) → h .f < k → last ≡ sets out (h .base) (groupNext k (h .n) (h .f) (h .c) (heardBy recs h) own))
+    → (k : ℕ) → g .f ≤ k → last ≡ sets out (g .base + 8) (halfNext k recs g card)
+half-is recs g h i card own out last s l eh ei eo written k m =
+    written k (omega (arith, half-smaller g h i s l eh .0))
+    ∙ rw (eh, ei, eo)
+    (ap (λ (hear : ℕ → ℕ → ℕ). sets out (g .base + 8) (groupNext k (halfCards i (g .n)) (halfBroken i (g .f)) (halfModulus i (g .f)) hear (card - halfFirst i (g .n))))
+    (half-heard recs g i))

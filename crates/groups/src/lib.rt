@@ -23,19 +23,23 @@ fn leaf_word(recs: &[u16], g: Group) -> u16
     ((x as u32 + 1) % g.c) as u16
 }
 
-// A group's next words, written from its base on.
-pub fn step_group(recs: &[u16], g: Group, card: usize, out: &mut [u16])
-    requires { ⌜ (Fits (length (now recs)) g) × (card < g .n) × (g .base + recordWords (g .f) ≤ length (now out)) ⌝ }
-    ensures { λ _. ⌜ ((k : ℕ) → g .f < k → now (out .exit) ≡ sets (now (out .entry)) (g .base) (groupNext k (g .n) (g .f) (g .c) (heardBy (now (recs .entry)) g) card)) ⌝ }
+// The one word of a group with f = 0, written at its base.
+fn step_leaf(recs: &[u16], g: Group, out: &mut [u16])
+    requires { ⌜ (Fits (length (now recs)) g) × (g .f ≡ 0) × (g .base < length (now out)) ⌝ }
+    ensures { λ _. ⌜ ((card k : ℕ) → g .f < k → now (out .exit) ≡ sets (now (out .entry)) (g .base) (groupNext k (g .n) (g .f) (g .c) (heardBy (now (recs .entry)) g) card)) ⌝ }
 {
     let base = g.base;
-    if g.f == 0 {
-        out[base] = leaf_word(recs, g);
-    } else {
-        let row = params::row_of(g.f);
-        level::put_level(out, base, level::next_level(recs, g, card, row));
-        step_half(recs, g, card, row, out);
-    }
+    out[base] = leaf_word(recs, g);
+}
+
+// A split group's next words, written from its base on.
+fn step_split(recs: &[u16], g: Group, card: usize, out: &mut [u16])
+    requires { ⌜ (Split (length (now recs)) g) × (card < g .n) × (g .base + recordWords (g .f) ≤ length (now out)) ⌝ }
+    ensures { λ _. ⌜ ((k : ℕ) → g .f < k → now (out .exit) ≡ sets (now (out .entry)) (g .base) (groupNext k (g .n) (g .f) (g .c) (heardBy (now (recs .entry)) g) card)) ⌝ }
+{
+    let row = params::row_of(g.f);
+    level::put_level(out, g.base, level::next_level(recs, g, card, row));
+    step_half(recs, g, card, row, out);
 }
 
 // "The card's own half also steps, as a group, on the records of that half."
@@ -45,8 +49,30 @@ fn step_half(recs: &[u16], g: Group, card: usize, row: Row, out: &mut [u16])
 {
     let half = g.n / 2;
     if card < half {
-        step_group(recs, group::half_zero(g, row.c0), card, out);
+        let own = group::half_zero(g, row.c0);
+        if own.f == 0 {
+            step_leaf(recs, own, out);
+        } else {
+            step_split(recs, own, card, out);
+        }
     } else {
-        step_group(recs, group::half_one(g, row.c1), card - half, out);
+        let own = group::half_one(g, row.c1);
+        if own.f == 0 {
+            step_leaf(recs, own, out);
+        } else {
+            step_split(recs, own, card - half, out);
+        }
+    }
+}
+
+// A group's next words, written from its base on.
+pub fn step_group(recs: &[u16], g: Group, card: usize, out: &mut [u16])
+    requires { ⌜ (Fits (length (now recs)) g) × (card < g .n) × (g .base + recordWords (g .f) ≤ length (now out)) ⌝ }
+    ensures { λ _. ⌜ ((k : ℕ) → g .f < k → now (out .exit) ≡ sets (now (out .entry)) (g .base) (groupNext k (g .n) (g .f) (g .c) (heardBy (now (recs .entry)) g) card)) ⌝ }
+{
+    if g.f == 0 {
+        step_leaf(recs, g, out);
+    } else {
+        step_split(recs, g, card, out);
     }
 }

@@ -1,0 +1,106 @@
+-- `groups::step_half` and `groups::step_split` meet their contracts: f falls on each round. Assumes nothing.
+use borrow.Author.Needs.{needs}
+use borrow.Author.Tests.{lt-ltb, le-ltb}
+use mathlib.Core.Path.{refl, _∙_}
+use native.Mathlib.Omega.{arith}
+use Prim.Native.Nat.{ℕ, _<_, _+_}
+use borrow.Fn.Kinds.{In}
+use borrow.Fn.PlainCycle.{Measures, is, falls, and}
+use Rattle.level.specs.Groups.{heardBy}
+use Rattle.rules.proofs.Records.{eight-words}
+use Rattle.level.proofs.Places.{split-narrow, split-cards}
+use Rattle.level.proofs.Rows.{row-is}
+use Rattle.groups.proofs.Words.{node-is, half-is, half-smaller}
+use Rattle.groups.proofs.step_half.Reads as step-half
+use Rattle.groups.proofs.step_half.Kinds as step-half-kinds
+use Rattle.groups.proofs.+step_half+step_split.Lts-step_half as step-half-lts
+use Rattle.groups.proofs.step_split.Reads as step-split
+use Rattle.groups.proofs.step_split.Kinds as step-split-kinds
+use Rattle.groups.proofs.+step_half+step_split.Lts-step_split as step-split-lts
+use Rattle.groups.proofs.step_leaf.Reads as step-leaf-reads
+use Rattle.level.proofs.group.half_one.Reads as half-one-reads
+use Rattle.level.proofs.group.half_zero.Reads as half-zero-reads
+use Rattle.level.proofs.next_level.Reads as next-level-reads
+use Rattle.level.proofs.put_level.Reads as put-level-reads
+use Rattle.params.proofs.row_of.Reads as row-of-reads
+use Rattle.groups.proofs.+step_half+step_split.{statement}
+use Rattle.groups.proofs.+step_half+step_split.Tie.{close}
+
+abbrev μ-step-half : Measures 2 step-half-kinds.ps ℕ
+μ-step-half κs a = a .1 .0 .f + a .1 .0 .f
+
+abbrev μ-step-split : Measures 2 step-split-kinds.ps ℕ
+μ-step-split κs a = a .1 .0 .f + a .1 .0 .f + 1
+
+abbrev step-half-at : ℕ → In 2 step-half-kinds.ps
+step-half-at t = and 2 step-half-kinds.ps (is 2 step-half-kinds.ps μ-step-half t) step-half.Pre
+
+abbrev step-half-below : ℕ → In 2 step-half-kinds.ps
+step-half-below t = and 2 step-half-kinds.ps (falls 2 step-half-kinds.ps _<_ μ-step-half t) step-half.Pre
+
+abbrev step-split-at : ℕ → In 2 step-split-kinds.ps
+step-split-at t = and 2 step-split-kinds.ps (is 2 step-split-kinds.ps μ-step-split t) step-split.Pre
+
+abbrev step-split-below : ℕ → In 2 step-split-kinds.ps
+step-split-below t = and 2 step-split-kinds.ps (falls 2 step-split-kinds.ps _<_ μ-step-split t) step-split.Pre
+
+pub +step-half+step-split-spec : {M : Type 1} → statement M
++step-half+step-split-spec =
+    close μ-step-half μ-step-split
+    (λ t. step-half-lts.spec (half-zero-reads.Asked, half-zero-reads.Learnt, step-leaf-reads.Asked, step-leaf-reads.Learnt, step-split-below t, step-split.Post, half-one-reads.Asked, half-one-reads.Learnt)
+    (step-half-at t) step-half.Post
+    (λ c κs. let s = c .before .before .before .before in
+    let g = s .pre .1 .0 in
+    (g .some, split-narrow g, row-is (s .args .g .f) (s .args .row) (g .some) (s .pre .1 .2) .m0))
+    (λ c κs. let s = c .before .before .before .before .before .before .before .before in
+    let h = half-smaller (s .args .g) (c .before .before .before .half-zero .result) 0 (s .pre .1 .0) (omega arith) (c .before .before .before .half-zero .ensures) in
+    (h .1, c .before .if2 .taken, omega (arith, h .2, s .pre .1 .3)))
+    (λ c κs. let s = c .before .before .before .before .before .before .before .before in
+    let h = half-smaller (s .args .g) (c .before .before .before .half-zero .result) 0 (s .pre .1 .0) (omega arith) (c .before .before .before .half-zero .ensures) in
+    (omega (arith, s .pre .0), (record { fits = h .1; some = omega arith }, omega arith, omega (arith, s .pre .1 .3))))
+    (λ c κs. let s = c .before .before .before .before in
+    let g = s .pre .1 .0 in
+    (g .some, split-narrow g, split-cards g, row-is (s .args .g .f) (s .args .row) (g .some) (s .pre .1 .2) .m1))
+    (λ c κs. let s = c .before .before .before .before .before .before .before .before in
+    let h = half-smaller (s .args .g) (c .before .before .before .half-one .result) 1 (s .pre .1 .0) (omega arith) (c .before .before .before .half-one .ensures) in
+    (h .1, c .before .if3 .taken, omega (arith, h .2, s .pre .1 .3)))
+    (λ c κs. let s = c .before .before .before .before .before .before .before .before in
+    let h = half-smaller (s .args .g) (c .before .before .before .half-one .result) 1 (s .pre .1 .0) (omega arith) (c .before .before .before .half-one .ensures) in
+    (omega (arith, s .pre .0), (record { fits = h .1; some = omega arith }, omega (arith, s .pre .1 .1), omega (arith, s .pre .1 .3))))
+    (λ c. c .before .before .step-leaf .kept .1 .1 .0)
+    (λ c. let h = c .before .before .before .before .before .before in
+    let s = h .before .before .before .before .before in
+    half-is (s .args .recs .now) (s .args .g) (h .half-zero .result) 0 (s .args .card) (s .args .card) (s .args .out .now) _ (s .pre .1 .0) (omega arith) (h .half-zero .ensures)
+    (simp (lt-ltb _ _ (h .before .if1 .taken))) (omega arith) (c .before .before .step-leaf .ensures (s .args .card)))
+    (λ c. c .before .before .step-split .kept .1 .1 .1 .0)
+    (λ c. let h = c .before .before .before .before .before .before in
+    let s = h .before .before .before .before .before in
+    half-is (s .args .recs .now) (s .args .g) (h .half-zero .result) 0 (s .args .card) (s .args .card) (s .args .out .now) _ (s .pre .1 .0) (omega arith) (h .half-zero .ensures)
+    (simp (lt-ltb _ _ (h .before .if1 .taken))) (omega arith) (c .before .before .step-split .ensures))
+    (λ c. c .before .before .step-leaf2 .kept .1 .1 .0)
+    (λ c. let h = c .before .before .before .before .before .before in
+    let s = h .before .before .before .before .before in
+    half-is (s .args .recs .now) (s .args .g) (h .half-one .result) 1 (s .args .card) _ (s .args .out .now) _ (s .pre .1 .0) (omega arith) (h .half-one .ensures)
+    (simp (le-ltb _ _ (h .before .if1 .left))) refl (c .before .before .step-leaf2 .ensures _))
+    (λ c. c .before .before .step-split2 .kept .1 .1 .1 .0)
+    (λ c. let h = c .before .before .before .before .before .before in
+    let s = h .before .before .before .before .before in
+    half-is (s .args .recs .now) (s .args .g) (h .half-one .result) 1 (s .args .card) _ (s .args .out .now) _ (s .pre .1 .0) (omega arith) (h .half-one .ensures)
+    (simp (le-ltb _ _ (h .before .if1 .left))) refl (c .before .before .step-split2 .ensures)))
+    (λ t. step-split-lts.spec (row-of-reads.Asked, row-of-reads.Learnt, next-level-reads.Asked, next-level-reads.Learnt, put-level-reads.Asked, put-level-reads.Learnt, step-half-below t, step-half.Post)
+    (step-split-at t) step-split.Post
+    (λ c κs. c .before .before .pre .1 .0 .fits .broken)
+    (λ c κs. let s = c .before .before .before .before in (s .pre .1 .0, s .pre .1 .1, c .before .row-of .ensures))
+    (λ c κs. let s = c .before .before .before .before .before in omega (arith, s .pre .1 .2, eight-words (s .args .g .f) (s .pre .1 .0 .some)))
+    (λ c κs. let r = c .before .before .before .before .before .before in
+    let s = r .before .before .before in (
+      omega (arith, s .pre .0),
+      (s .pre .1 .0, s .pre .1 .1, r .row-of .ensures, omega (arith, s .pre .1 .2, c .before .before .before .put-level .kept .0)),
+    ))
+    (λ c. c .before .before .step-half .kept .1 .1 .1 .1 .0 ∙ c .before .before .before .before .before .before .put-level .kept .0)
+    (λ c. let p = c .before .before .before .before .before .before in
+    let l = p .before in
+    let s = l .before .before .before .before .before in
+    let g = s .args .g in
+    node-is (g .n) (g .f) (g .c) (heardBy (s .args .recs .now) g) (s .args .card) (g .base) (s .args .out .now) (p .put-level .last .0) _ (l .next-level .result)
+    (s .pre .1 .0 .some) (l .next-level .ensures) (p .put-level .ensures) (c .before .before .step-half .ensures)))
