@@ -47,10 +47,10 @@ node-is n (suc f) c hear card base out now last l some el eo half (suc k) h =
 
 -- a half fits where its group does, and its f is less by more than half
 pub half-smaller : {size : ℕ} (g h : Group) (i : ℕ) → Split size g → i < 2 → h ≡ halfGroup i g
-    → (h .f + h .f + 1 < g .f + g .f) × (Fits size h) × (h .base + recordWords (h .f) ≤ g .base + recordWords (g .f)) × (h .n ≡ halfCards i (g .n))
+    → (h .f + h .f + 1 < g .f + g .f) × (Fits size h) × (h .base + recordWords (h .f) ≤ g .base + recordWords (g .f)) × (h .n ≡ halfCards i (g .n)) × (h .f ≡ halfBroken i (g .f))
 half-smaller g h i s l e =
     rw e
-    (omega (arith, half-broken i (g .f) l, s .some), half-fits s i l, omega (arith, half-words i (g .f) l (s .some)), refl)
+    (omega (arith, half-broken i (g .f) l, s .some), half-fits s i l, omega (arith, half-words i (g .f) l (s .some)), refl, refl)
 
 -- what a half writes as a group is what its group's card has of it
 pub half-is : {size : ℕ} (recs : List ℕ) (g h : Group) (i card own : ℕ) (out last : List ℕ) → Split size g → i < 2 → h ≡ halfGroup i g

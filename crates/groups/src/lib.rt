@@ -43,24 +43,23 @@ fn step_split(recs: &[u16], g: Group, card: usize, out: &mut [u16])
 }
 
 // "The card's own half also steps, as a group, on the records of that half."
+// Half 0 has f = 0 where its group has 2 or less, half 1 where it has 1.
 fn step_half(recs: &[u16], g: Group, card: usize, row: Row, out: &mut [u16])
     requires { ⌜ (Split (length (now recs)) g) × (card < g .n) × (row ≡ rowRead (g .f)) × (g .base + recordWords (g .f) ≤ length (now out)) ⌝ }
     ensures { λ _. ⌜ ((k : ℕ) → g .f ≤ k → now (out .exit) ≡ sets (now (out .entry)) (g .base + 8) (halfNext k (now (recs .entry)) g card)) ⌝ }
 {
     let half = g.n / 2;
     if card < half {
-        let own = group::half_zero(g, row.c0);
-        if own.f == 0 {
-            step_leaf(recs, own, out);
+        if g.f <= 2 {
+            step_leaf(recs, group::half_zero(g, row.c0), out);
         } else {
-            step_split(recs, own, card, out);
+            step_split(recs, group::half_zero(g, row.c0), card, out);
         }
     } else {
-        let own = group::half_one(g, row.c1);
-        if own.f == 0 {
-            step_leaf(recs, own, out);
+        if g.f <= 1 {
+            step_leaf(recs, group::half_one(g, row.c1), out);
         } else {
-            step_split(recs, own, card - half, out);
+            step_split(recs, group::half_one(g, row.c1), card - half, out);
         }
     }
 }

@@ -49,44 +49,50 @@ pub +step-half+step-split-spec : {M : Type 1} → statement M
     close μ-step-half μ-step-split
     (λ t. step-half-lts.spec (half-zero-reads.Asked, half-zero-reads.Learnt, step-leaf-reads.Asked, step-leaf-reads.Learnt, step-split-below t, step-split.Post, half-one-reads.Asked, half-one-reads.Learnt)
     (step-half-at t) step-half.Post
-    (λ c κs. let s = c .before .before .before .before in
+    (λ c κs. let s = c .before .before .before .before .before .before in
     let g = s .pre .1 .0 in
     (g .some, split-narrow g, row-is (s .args .g .f) (s .args .row) (g .some) (s .pre .1 .2) .m0))
     (λ c κs. let s = c .before .before .before .before .before .before .before .before in
-    let h = half-smaller (s .args .g) (c .before .before .before .half-zero .result) 0 (s .pre .1 .0) (omega arith) (c .before .before .before .half-zero .ensures) in
-    (h .1, c .before .if2 .taken, omega (arith, h .2, s .pre .1 .3)))
+    let h = half-smaller (s .args .g) (c .before .half-zero .result) 0 (s .pre .1 .0) (omega arith) (c .before .half-zero .ensures) in
+    (h .1, omega arith, omega (arith, s .pre .1 .3)))
+    (λ c κs. let s = c .before .before .before .before .before .before in
+    let g = s .pre .1 .0 in
+    (g .some, split-narrow g, row-is (s .args .g .f) (s .args .row) (g .some) (s .pre .1 .2) .m0))
     (λ c κs. let s = c .before .before .before .before .before .before .before .before in
-    let h = half-smaller (s .args .g) (c .before .before .before .half-zero .result) 0 (s .pre .1 .0) (omega arith) (c .before .before .before .half-zero .ensures) in
+    let h = half-smaller (s .args .g) (c .before .half-zero2 .result) 0 (s .pre .1 .0) (omega arith) (c .before .half-zero2 .ensures) in
     (omega (arith, s .pre .0), (record { fits = h .1; some = omega arith }, omega arith, omega (arith, s .pre .1 .3))))
-    (λ c κs. let s = c .before .before .before .before in
+    (λ c κs. let s = c .before .before .before .before .before .before in
     let g = s .pre .1 .0 in
     (g .some, split-narrow g, split-cards g, row-is (s .args .g .f) (s .args .row) (g .some) (s .pre .1 .2) .m1))
     (λ c κs. let s = c .before .before .before .before .before .before .before .before in
-    let h = half-smaller (s .args .g) (c .before .before .before .half-one .result) 1 (s .pre .1 .0) (omega arith) (c .before .before .before .half-one .ensures) in
-    (h .1, c .before .if3 .taken, omega (arith, h .2, s .pre .1 .3)))
+    let h = half-smaller (s .args .g) (c .before .half-one .result) 1 (s .pre .1 .0) (omega arith) (c .before .half-one .ensures) in
+    (h .1, omega arith, omega (arith, s .pre .1 .3)))
+    (λ c κs. let s = c .before .before .before .before .before .before in
+    let g = s .pre .1 .0 in
+    (g .some, split-narrow g, split-cards g, row-is (s .args .g .f) (s .args .row) (g .some) (s .pre .1 .2) .m1))
     (λ c κs. let s = c .before .before .before .before .before .before .before .before in
-    let h = half-smaller (s .args .g) (c .before .before .before .half-one .result) 1 (s .pre .1 .0) (omega arith) (c .before .before .before .half-one .ensures) in
+    let h = half-smaller (s .args .g) (c .before .half-one2 .result) 1 (s .pre .1 .0) (omega arith) (c .before .half-one2 .ensures) in
     (omega (arith, s .pre .0), (record { fits = h .1; some = omega arith }, omega (arith, s .pre .1 .1), omega (arith, s .pre .1 .3))))
     (λ c. c .before .before .step-leaf .kept .1 .1 .0)
-    (λ c. let h = c .before .before .before .before .before .before in
-    let s = h .before .before .before .before .before in
+    (λ c. let h = c .before .before .before .before in
+    let s = h .before .before .before .before .before .before .before in
     half-is (s .args .recs .now) (s .args .g) (h .half-zero .result) 0 (s .args .card) (s .args .card) (s .args .out .now) _ (s .pre .1 .0) (omega arith) (h .half-zero .ensures)
-    (simp (lt-ltb _ _ (h .before .if1 .taken))) (omega arith) (c .before .before .step-leaf .ensures (s .args .card)))
+    (simp (lt-ltb _ _ (h .before .before .before .if1 .taken))) (omega arith) (c .before .before .step-leaf .ensures (s .args .card)))
     (λ c. c .before .before .step-split .kept .1 .1 .1 .0)
-    (λ c. let h = c .before .before .before .before .before .before in
-    let s = h .before .before .before .before .before in
-    half-is (s .args .recs .now) (s .args .g) (h .half-zero .result) 0 (s .args .card) (s .args .card) (s .args .out .now) _ (s .pre .1 .0) (omega arith) (h .half-zero .ensures)
-    (simp (lt-ltb _ _ (h .before .if1 .taken))) (omega arith) (c .before .before .step-split .ensures))
+    (λ c. let h = c .before .before .before .before in
+    let s = h .before .before .before .before .before .before .before in
+    half-is (s .args .recs .now) (s .args .g) (h .half-zero2 .result) 0 (s .args .card) (s .args .card) (s .args .out .now) _ (s .pre .1 .0) (omega arith) (h .half-zero2 .ensures)
+    (simp (lt-ltb _ _ (h .before .before .before .if1 .taken))) (omega arith) (c .before .before .step-split .ensures))
     (λ c. c .before .before .step-leaf2 .kept .1 .1 .0)
-    (λ c. let h = c .before .before .before .before .before .before in
-    let s = h .before .before .before .before .before in
+    (λ c. let h = c .before .before .before .before in
+    let s = h .before .before .before .before .before .before .before in
     half-is (s .args .recs .now) (s .args .g) (h .half-one .result) 1 (s .args .card) _ (s .args .out .now) _ (s .pre .1 .0) (omega arith) (h .half-one .ensures)
-    (simp (le-ltb _ _ (h .before .if1 .left))) refl (c .before .before .step-leaf2 .ensures _))
+    (simp (le-ltb _ _ (h .before .before .before .if1 .left))) refl (c .before .before .step-leaf2 .ensures _))
     (λ c. c .before .before .step-split2 .kept .1 .1 .1 .0)
-    (λ c. let h = c .before .before .before .before .before .before in
-    let s = h .before .before .before .before .before in
-    half-is (s .args .recs .now) (s .args .g) (h .half-one .result) 1 (s .args .card) _ (s .args .out .now) _ (s .pre .1 .0) (omega arith) (h .half-one .ensures)
-    (simp (le-ltb _ _ (h .before .if1 .left))) refl (c .before .before .step-split2 .ensures)))
+    (λ c. let h = c .before .before .before .before in
+    let s = h .before .before .before .before .before .before .before in
+    half-is (s .args .recs .now) (s .args .g) (h .half-one2 .result) 1 (s .args .card) _ (s .args .out .now) _ (s .pre .1 .0) (omega arith) (h .half-one2 .ensures)
+    (simp (le-ltb _ _ (h .before .before .before .if1 .left))) refl (c .before .before .step-split2 .ensures)))
     (λ t. step-split-lts.spec (row-of-reads.Asked, row-of-reads.Learnt, next-level-reads.Asked, next-level-reads.Learnt, put-level-reads.Asked, put-level-reads.Learnt, step-half-below t, step-half.Post)
     (step-split-at t) step-split.Post
     (λ c κs. c .before .before .pre .1 .0 .fits .broken)
