@@ -8,7 +8,7 @@
  *
  * Link libtsendurkho.a; of the C library it needs memcpy and memset. No call
  * keeps anything between calls, allocates or calls back, so calls from several
- * threads do not disturb one another. A step needs at most 2,640 bytes of
+ * threads do not disturb one another. A step needs at most 2,144 bytes of
  * stack (docs/PERFORMANCE.md).
  *
  *
