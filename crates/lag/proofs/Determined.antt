@@ -1,13 +1,13 @@
--- Two results that a contract allows coincide, for all inputs. Assumes nothing.
-use mathlib.Core.Path.{_≡_}
-use Prim.Native.Nat.{ℕ}
-use lib.IntN.{ℤ}
-use Rattle.rules.specs.Refusals.{lagRefusal}
-use Rattle.rules.specs.Calls.{lagAnswer}
-use Rattle.rules.proofs.Determined.{only-one}
+-- Two results that a contract allows coincide, for all inputs.
+use mathlib.Core.Path.{refl}
+use Rattle.rules.proofs.Determined.{Determined, only-one}
+use Rattle.lag.proofs.lag_refusal.Kinds as lag-refusal-kinds
+use Rattle.lag.proofs.lag_refusal.Reads as lag-refusal-reads
+use Rattle.lag.proofs.lag_of.Kinds as lag-kinds
+use Rattle.lag.proofs.lag_of.Reads as lag-reads
 
-pub lag-refusal-determined : (c x y r s : ℕ) → r ≡ lagRefusal c x y → s ≡ lagRefusal c x y → r ≡ s
-lag-refusal-determined c x y r s p q = only-one p q
+pub lag-refusal-determined : Determined lag-refusal-kinds.ps lag-refusal-kinds.r lag-refusal-reads.Pre lag-refusal-reads.Post
+lag-refusal-determined = (λ κs a. tt, λ κs a x y v w p q. (only-one p q, refl))
 
-pub lag-determined : (c x y : ℕ) (z w : ℤ) → z ≡ lagAnswer c x y → w ≡ lagAnswer c x y → z ≡ w
-lag-determined c x y z w p q = only-one p q
+pub lag-determined : Determined lag-kinds.ps lag-kinds.r lag-reads.Pre lag-reads.Post
+lag-determined = (λ κs a. tt, λ κs a x y v w p q. (only-one p q, refl))

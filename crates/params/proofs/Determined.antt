@@ -1,29 +1,35 @@
 -- Two results that a contract allows coincide, for all inputs; and the record size from leading zeros is the table's W.
--- Assumes nothing.
 use mathlib.Core.Path.{_≡_, refl}
-use mathlib.Core.Bool.{Bool}
 use Prim.Native.Nat.{ℕ, zero, suc}
-use Rattle.rules.specs.Parameters.{recordWords, badModulus}
-use Rattle.rules.specs.Refusals.{paramsRefusal, shapeRefusal}
+use Rattle.rules.specs.Parameters.{recordWords}
 use Rattle.rules.specs.Calls.{rowOf}
-use Rattle.rules.proofs.Determined.{only-one}
-use Rattle.params.specs.Answers.{rowRead, answerTo}
-use Rattle.params.specs.declared.Parameters.{Parameters}
+use Rattle.rules.proofs.Determined.{Determined, only-one}
+use Rattle.params.specs.Answers.{rowRead}
+use Rattle.params.proofs.parameters_of.Kinds as parameters-kinds
+use Rattle.params.proofs.parameters_of.Reads as parameters-reads
+use Rattle.params.proofs.shape_refusal.Kinds as shape-refusal-kinds
+use Rattle.params.proofs.shape_refusal.Reads as shape-refusal-reads
+use Rattle.params.proofs.counter_refusal.Kinds as counter-refusal-kinds
+use Rattle.params.proofs.counter_refusal.Reads as counter-refusal-reads
+use Rattle.params.proofs.modulus_refused.Kinds as modulus-refused-kinds
+use Rattle.params.proofs.modulus_refused.Reads as modulus-refused-reads
+use Rattle.params.proofs.record_words.Kinds as record-words-kinds
+use Rattle.params.proofs.record_words.Reads as record-words-reads
 
-pub parameters-determined : (n f : ℕ) (x y : Parameters) → x ≡ answerTo n f → y ≡ answerTo n f → x ≡ y
-parameters-determined n f x y p q = only-one p q
+pub parameters-determined : Determined parameters-kinds.ps parameters-kinds.r parameters-reads.Pre parameters-reads.Post
+parameters-determined = (λ κs a. tt, λ κs a x y v w p q. (only-one p q, refl))
 
-pub shape-refusal-determined : (n f x y : ℕ) → x ≡ paramsRefusal n f → y ≡ paramsRefusal n f → x ≡ y
-shape-refusal-determined n f x y p q = only-one p q
+pub shape-refusal-determined : Determined shape-refusal-kinds.ps shape-refusal-kinds.r shape-refusal-reads.Pre shape-refusal-reads.Post
+shape-refusal-determined = (λ κs a. tt, λ κs a x y v w p q. (only-one p q, refl))
 
-pub counter-refusal-determined : (n f c x y : ℕ) → x ≡ shapeRefusal n f c 0 → y ≡ shapeRefusal n f c 0 → x ≡ y
-counter-refusal-determined n f c x y p q = only-one p q
+pub counter-refusal-determined : Determined counter-refusal-kinds.ps counter-refusal-kinds.r counter-refusal-reads.Pre counter-refusal-reads.Post
+counter-refusal-determined = (λ κs a. tt, λ κs a x y v w p q. (only-one p q, refl))
 
-pub modulus-refused-determined : (c : ℕ) (x y : Bool) → x ≡ badModulus c → y ≡ badModulus c → x ≡ y
-modulus-refused-determined c x y p q = only-one p q
+pub modulus-refused-determined : Determined modulus-refused-kinds.ps modulus-refused-kinds.r modulus-refused-reads.Pre modulus-refused-reads.Post
+modulus-refused-determined = (λ κs a. tt, λ κs a x y v w p q. (only-one p q, refl))
 
-pub record-words-determined : (f x y : ℕ) → x ≡ recordWords f → y ≡ recordWords f → x ≡ y
-record-words-determined f x y p q = only-one p q
+pub record-words-determined : Determined record-words-kinds.ps record-words-kinds.r record-words-reads.Pre record-words-reads.Post
+record-words-determined = (λ κs a. tt, λ κs a x y v w p q. (only-one p q, refl))
 
 -- the table's column of W holds the record size, for every f
 pub table-words : (f : ℕ) → rowRead f .words ≡ recordWords f
