@@ -1,22 +1,25 @@
--- Two results that a contract allows coincide, answers and buffers, for all inputs. Assumes nothing.
-use mathlib.Core.Path.{_≡_}
-use mathlib.Core.List.{List}
-use Prim.Native.Nat.{ℕ}
-use lib.ListN.{length}
-use Rattle.rules.specs.Refusals.{stepRefusal}
-use Rattle.rules.specs.Calls.{stepOut}
-use Rattle.rules.proofs.Determined.{only-one, both-only}
+-- Two results that a contract allows coincide, answers and buffers, for all inputs.
+use mathlib.Core.Path.{_≡_, refl, sym, ap, _∙_}
+use Rattle.rules.specs.Parameters.{noneWord}
+use Rattle.rules.specs.Groups.{readVote}
+use Rattle.rules.proofs.Determined.{Determined, only-one}
 use Rattle.card.specs.declared.Shown.{Shown}
-use Rattle.card.specs.Answers.{shownTo}
+use Rattle.card.proofs.step.Kinds as step-kinds
+use Rattle.card.proofs.step.Reads as step-reads
+use Rattle.card.proofs.shown_count.Kinds as shown-kinds
+use Rattle.card.proofs.shown_count.Reads as shown-reads
 
--- the answer and the buffer at exit, as the contract of `step` has them
-abbrev Stepped : ℕ → ℕ → ℕ → ℕ → List ℕ → List ℕ → ℕ → List ℕ → Type 0
-Stepped n f c card records out r exit =
-    (r ≡ stepRefusal n f c card (length records) (length out)) × (exit ≡ stepOut n f c card records out)
+pub step-determined : Determined step-kinds.ps step-kinds.r step-reads.Pre step-reads.Post
+step-determined = (λ κs a. tt, λ κs a x y v w p q. (only-one (p .0) (q .0), rw (only-one (p .1) (q .1))))
 
-pub step-determined : (n f c card : ℕ) (records out : List ℕ) (r s : ℕ) (x y : List ℕ)
-    → Stepped n f c card records out r x → Stepped n f c card records out s y → (r ≡ s) × (x ≡ y)
-step-determined n f c card records out r s x y p q = both-only p q
+-- an answer is its refusal and its count
+same-parts : (x y : Shown) → x .refusal ≡ y .refusal → x .count ≡ y .count → x ≡ y
+same-parts x y refusal count = λ i. record { refusal = refusal i; count = count i }
 
-pub shown-determined : (n f c : ℕ) (words : List ℕ) (x y : Shown) → x ≡ shownTo n f c words → y ≡ shownTo n f c words → x ≡ y
-shown-determined n f c words x y p q = only-one p q
+pub shown-determined : Determined shown-kinds.ps shown-kinds.r shown-reads.Pre shown-reads.Post
+shown-determined = (
+  λ κs a. tt,
+  λ κs a x y v w p q.
+      let count = p .told ∙ ap (readVote noneWord) (only-one (p .number) (q .number)) ∙ sym (q .told) in
+      (same-parts x y (only-one (p .refusal) (q .refusal)) count, refl),
+)

@@ -5,7 +5,7 @@ ghost use mathlib.Core.Path.{_≡_};
 ghost use lib.ListN.{length, replicate};
 ghost use Rattle.rules.specs.Refusals.{stepRefusal, shownRefusal};
 ghost use Rattle.rules.specs.Calls.{stepOut};
-ghost use Rattle.card.specs.Answers.{shownTo};
+ghost use Rattle.card.specs.Answers.{Shows};
 
 // All words 0.
 fn clear(out: &mut [u16])
@@ -91,7 +91,7 @@ fn shown_refusal(n: u32, f: u32, c: u32, words: usize) -> u32
 
 // "Shown count. The outermost a, or none."
 pub fn shown_count(n: u32, f: u32, c: u32, words: &[u16]) -> Shown
-    ensures { λ r. ⌜ r ≡ shownTo n f c (now (words .entry)) ⌝ }
+    ensures { λ r. ⌜ Shows n f c (now (words .entry)) r ⌝ }
 {
     let refusal = shown_refusal(n, f, c, words.len());
     if refusal != 0 {

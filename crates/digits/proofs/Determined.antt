@@ -1,10 +1,8 @@
--- Two results that a contract allows coincide, for each public routine. Assumes nothing.
-use mathlib.Core.Path.{_≡_}
-use mathlib.Core.Bool.{Bool}
-use mathlib.Core.List.{List}
-use Prim.Native.Nat.{ℕ}
-use Rattle.rules.specs.Text.{wellFormed}
-use Rattle.rules.proofs.Determined.{only-one}
+-- Two results that a contract allows coincide, for all inputs.
+use mathlib.Core.Path.{refl}
+use Rattle.rules.proofs.Determined.{Determined, only-one}
+use Rattle.digits.proofs.well_formed.Kinds as well-formed-kinds
+use Rattle.digits.proofs.well_formed.Reads as well-formed-reads
 
-pub well-formed-determined : (size : ℕ) (text : List ℕ) (x y : Bool) → x ≡ wellFormed size text → y ≡ wellFormed size text → x ≡ y
-well-formed-determined size text x y p q = only-one p q
+pub well-formed-determined : Determined well-formed-kinds.ps well-formed-kinds.r well-formed-reads.Pre well-formed-reads.Post
+well-formed-determined = (λ κs a. tt, λ κs a x y v w p q. (only-one p q, refl))

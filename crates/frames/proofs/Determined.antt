@@ -1,24 +1,18 @@
--- Two results that a contract allows coincide, answers and buffers, for all inputs. Assumes nothing.
-use mathlib.Core.Path.{_≡_}
-use mathlib.Core.List.{List}
-use Prim.Native.Nat.{ℕ}
-use lib.ListN.{length}
-use lib.Seq.{sets}
-use Rattle.rules.specs.RunFile.{headerRefusal, refusalLine}
-use Rattle.rules.proofs.Determined.{only-one, both-only}
-use Rattle.frames.specs.declared.header.Header.{Header}
-use Rattle.frames.specs.Headers.{said, testsOf}
+-- Two results that a contract allows coincide, answers and buffers, for all inputs.
+use mathlib.Core.Path.{refl}
+use Rattle.rules.proofs.Determined.{Determined, only-one}
+use Rattle.frames.proofs.header.tests_of.Kinds as tests-kinds
+use Rattle.frames.proofs.header.tests_of.Reads as tests-reads
+use Rattle.frames.proofs.header.header_refusal.Kinds as header-refusal-kinds
+use Rattle.frames.proofs.header.header_refusal.Reads as header-refusal-reads
+use Rattle.frames.proofs.output.put_refusal.Kinds as put-refusal-kinds
+use Rattle.frames.proofs.output.put_refusal.Reads as put-refusal-reads
 
-pub tests-determined : (h : Header) (r s : ℕ) → r ≡ testsOf (said h) → s ≡ testsOf (said h) → r ≡ s
-tests-determined h r s x y = only-one x y
+pub tests-determined : Determined tests-kinds.ps tests-kinds.r tests-reads.Pre tests-reads.Post
+tests-determined = (λ κs a. tt, λ κs a x y v w p q. (only-one p q, refl))
 
-pub header-refusal-determined : (line : List ℕ) (r s : ℕ) → r ≡ headerRefusal line → s ≡ headerRefusal line → r ≡ s
-header-refusal-determined line r s x y = only-one x y
+pub header-refusal-determined : Determined header-refusal-kinds.ps header-refusal-kinds.r header-refusal-reads.Pre header-refusal-reads.Post
+header-refusal-determined = (λ κs a. tt, λ κs a x y v w p q. (only-one p q, refl))
 
--- the answer and the buffer at exit, as the contract of the refusal line has them
-abbrev Written : ℕ → ℕ → List ℕ → ℕ → List ℕ → Type 0
-Written number refusal out r exit = (r ≡ length (refusalLine number refusal)) × (exit ≡ sets out 0 (refusalLine number refusal))
-
-pub put-refusal-determined : (number refusal : ℕ) (out : List ℕ) (r s : ℕ) (p q : List ℕ)
-    → Written number refusal out r p → Written number refusal out s q → (r ≡ s) × (p ≡ q)
-put-refusal-determined number refusal out r s p q x y = both-only x y
+pub put-refusal-determined : Determined put-refusal-kinds.ps put-refusal-kinds.r put-refusal-reads.Pre put-refusal-reads.Post
+put-refusal-determined = (λ κs a. tt, λ κs a x y v w p q. (only-one (p .0) (q .0), rw (only-one (p .1) (q .1))))

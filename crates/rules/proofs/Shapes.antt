@@ -153,9 +153,9 @@ step-accepted n f c card records out e =
     }
 
 -- where the shown count is not refused
-pub shown-accepted : (n f c words : ℕ) → shownRefusal n f c words ≡ 0 → words ≡ recordWords f
+pub shown-accepted : (n f c words : ℕ) → shownRefusal n f c words ≡ 0 → (words ≡ recordWords f) × (c ≤ mostModulus)
 shown-accepted n f c words e =
     let p = not-given 1 (badCards n) _ (omega arith) e in
     let q = not-given 2 (badBroken n f) _ (omega arith) (p .1) in
     let m = not-given 3 (badModulus c) _ (omega arith) (q .1) in
-    right words (recordWords f) (not-given 5 (wrong words (recordWords f)) 0 (omega arith) (m .1) .0)
+    (right words (recordWords f) (not-given 5 (wrong words (recordWords f)) 0 (omega arith) (m .1) .0), good-modulus c (m .0) .1)

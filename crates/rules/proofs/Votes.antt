@@ -13,7 +13,7 @@ use Rattle.rules.specs.Counting.{same}
 use Rattle.rules.specs.Parameters.{noneWord}
 use Rattle.rules.specs.Groups.{readVote, wordOf}
 use Rattle.rules.specs.OneBeat.{enough}
-use Rattle.rules.proofs.Tests.{decided}
+use Rattle.rules.proofs.Tests.{decided, le-or-lt}
 
 -- a count is never none
 pub count-none : {x : ℕ} → Count x ≡ None → ⊥
@@ -58,6 +58,13 @@ read-count m x l = read-below m x l
 pub read-none : (m : ℕ) → m ≤ noneWord → readVote m (wordOf None) ≡ None
 unfolding wordOf
 read-none m l = read-above m noneWord l
+
+-- so is whatever was read: a vote's number tells which it is
+pub read-again : (m word : ℕ) → m ≤ noneWord → readVote noneWord (wordOf (readVote m word)) ≡ readVote m word
+read-again m word l = ⊎-elim
+    (λ (h : m ≤ word). rw (read-above m word h) (read-none noneWord (omega arith)))
+    (λ (h : word < m). rw (read-below m word h) (read-count noneWord word (omega arith)))
+    (le-or-lt m word)
 
 -- enough are "at least n-f cards", whichever test says so
 pub enough-true : (n f cards : ℕ) → enough n f cards ≡ true → n - f ≤ cards

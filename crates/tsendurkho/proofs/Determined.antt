@@ -1,24 +1,18 @@
--- Two results that a contract allows coincide, answers and buffers, for all inputs. Assumes nothing.
-use mathlib.Core.Path.{_≡_}
-use mathlib.Core.List.{List}
-use Prim.Native.Nat.{ℕ}
-use lib.IntN.{ℤ}
-use lib.ListN.{length}
-use Rattle.rules.specs.Refusals.{stepBytesRefusal, lagRefusal}
-use Rattle.rules.specs.Calls.{stepBytesOut, lagAnswer}
-use Rattle.rules.proofs.Determined.{only-one, both-only}
+-- Two results that a contract allows coincide, answers and buffers, for all inputs.
+use mathlib.Core.Path.{refl}
+use Rattle.rules.proofs.Determined.{Determined, only-one}
+use Rattle.tsendurkho.proofs.tsendurkho_step.Kinds as step-kinds
+use Rattle.tsendurkho.proofs.tsendurkho_step.Reads as step-reads
+use Rattle.tsendurkho.proofs.tsendurkho_lag_refusal.Kinds as lag-refusal-kinds
+use Rattle.tsendurkho.proofs.tsendurkho_lag_refusal.Reads as lag-refusal-reads
+use Rattle.tsendurkho.proofs.tsendurkho_lag.Kinds as lag-kinds
+use Rattle.tsendurkho.proofs.tsendurkho_lag.Reads as lag-reads
 
--- the answer and the buffer at exit, as the contract of `tsendurkho_step` has them
-abbrev Stepped : ℕ → ℕ → ℕ → ℕ → List ℕ → List ℕ → ℕ → List ℕ → Type 0
-Stepped n f c card records out r exit =
-    (r ≡ stepBytesRefusal n f c card (length records) (length out)) × (exit ≡ stepBytesOut n f c card records out)
+pub step-determined : Determined step-kinds.ps step-kinds.r step-reads.Pre step-reads.Post
+step-determined = (λ κs a. tt, λ κs a x y v w p q. (only-one (p .0) (q .0), rw (only-one (p .1) (q .1))))
 
-pub step-determined : (n f c card : ℕ) (records out : List ℕ) (r s : ℕ) (x y : List ℕ)
-    → Stepped n f c card records out r x → Stepped n f c card records out s y → (r ≡ s) × (x ≡ y)
-step-determined n f c card records out r s x y p q = both-only p q
+pub lag-refusal-determined : Determined lag-refusal-kinds.ps lag-refusal-kinds.r lag-refusal-reads.Pre lag-refusal-reads.Post
+lag-refusal-determined = (λ κs a. tt, λ κs a x y v w p q. (only-one p q, refl))
 
-pub lag-refusal-determined : (c x y r s : ℕ) → r ≡ lagRefusal c x y → s ≡ lagRefusal c x y → r ≡ s
-lag-refusal-determined c x y r s p q = only-one p q
-
-pub lag-determined : (c x y : ℕ) (z w : ℤ) → z ≡ lagAnswer c x y → w ≡ lagAnswer c x y → z ≡ w
-lag-determined c x y z w p q = only-one p q
+pub lag-determined : Determined lag-kinds.ps lag-kinds.r lag-reads.Pre lag-reads.Post
+lag-determined = (λ κs a. tt, λ κs a x y v w p q. (only-one p q, refl))

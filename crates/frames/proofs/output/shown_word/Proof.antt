@@ -31,7 +31,7 @@ sound c =
     let a = e .before .before .before .args in
     let from = a .v * w .record-words .result in
     let q : from + w .record-words .result - from ≡ w .record-words .result = omega arith in
-    rw (c .word-of .ensures, c .before .shown-count .ensures, q)
+    rw (c .word-of .ensures, c .before .shown-count .ensures .number, q)
     (shown-sound (said (a .h)) (a .table .now) (a .v) (w .record-words .result) (e .before .before .before .pre .0) (w .record-words .ensures) (inside w .0)
     (sym (e .before .is-broken .ensures) ∙ e .if1 .left) _ refl
     (length-take-le (w .record-words .result) (drop from (a .table .now)) (omega (arith, inside w .0, length-drop from (a .table .now)))))
