@@ -9,7 +9,7 @@ use super::number_at;
 use super::put_number;
 
 // The word whose four digits stand at a place.
-pub fn word_at(text: &[u8], at: usize) -> u16
+fn word_at(text: &[u8], at: usize) -> u16
     requires { ⌜ (allDigits (now text) ≡ true) × (at + 4 ≤ length (now text)) ⌝ }
     ensures { λ r. ⌜ r ≡ numberAt (now (text .entry)) at 4 ⌝ }
 {

@@ -19,13 +19,13 @@ OneResultAs {n} ps r Post Seen see =
     (κs : Lfts n) (a : Dens κs ps) (x y : resT r κs .Denot) (v w : Lasts (endedOf n ps r) κs a)
     → Post κs a x (atExit (endedOf n ps r) κs a v) → Post κs a y (atExit (endedOf n ps r) κs a w) → (see κs x ≡ see κs y) × (v ≡ w)
 
--- the whole answer is seen
-abbrev pub OneResult : {n : ℕ} (ps : List (PK n)) (r : RK n) → Out n ps r → Type 0
-OneResult {n} ps r Post = OneResultAs ps r Post (λ κs. resT r κs .Denot) (λ κs x. x)
-
 -- what is shown of each public routine: it asks nothing, and its contract allows one result
+abbrev pub DeterminedAs : {n : ℕ} (ps : List (PK n)) (r : RK n) → In n ps → Out n ps r → (Seen : Lfts n → Type 0) → ((κs : Lfts n) → resT r κs .Denot → Seen κs) → Type 0
+DeterminedAs ps r Pre Post Seen see = AsksNothing ps Pre × OneResultAs ps r Post Seen see
+
+-- the same where the whole answer is seen
 abbrev pub Determined : {n : ℕ} (ps : List (PK n)) (r : RK n) → In n ps → Out n ps r → Type 0
-Determined ps r Pre Post = AsksNothing ps Pre × OneResult ps r Post
+Determined ps r Pre Post = DeterminedAs ps r Pre Post (λ κs. resT r κs .Denot) (λ κs x. x)
 
 -- a contract that is an equation allows one result
 pub only-one : {A : Type 0} {is x y : A} → x ≡ is → y ≡ is → x ≡ y

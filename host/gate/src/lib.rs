@@ -1,0 +1,114 @@
+//! A copy of what the gate's own scripts read, in which a test puts something wrong.
+
+use std::env;
+use std::fs;
+use std::path::{Path, PathBuf};
+use std::process::{Command, Output};
+
+/// A folder of a test's own, with the scripts in it. It is removed at the end.
+pub struct Copy {
+    folder: PathBuf,
+}
+
+impl Copy {
+    /// The scripts alone.
+    pub fn of_scripts(name: &str) -> Copy {
+        let folder = env::temp_dir().join(format!("gate-{}-{name}", std::process::id()));
+        let copy = Copy { folder };
+        copy.take(".ci");
+        copy
+    }
+
+    /// With all that is written of the code.
+    pub fn of_repository(name: &str) -> Copy {
+        let copy = Copy::of_scripts(name);
+        for part in ["crates", "crates.txt", "docs"] {
+            copy.take(part);
+        }
+        copy
+    }
+
+    fn take(&self, part: &str) {
+        duplicate(&root().join(part), &self.path(part));
+    }
+
+    pub fn path(&self, file: &str) -> PathBuf {
+        self.folder.join(file)
+    }
+
+    pub fn write(&self, file: &str, text: &str) {
+        let path = self.path(file);
+        fs::create_dir_all(path.parent().expect("a file stands in a folder")).expect("a folder for it");
+        fs::write(path, text).expect("the file can be written");
+    }
+
+    pub fn remove(&self, file: &str) {
+        fs::remove_file(self.path(file)).expect("the file is there");
+    }
+
+    /// Puts one text for another, which the file has.
+    pub fn replace(&self, file: &str, old: &str, new: &str) {
+        let text = fs::read_to_string(self.path(file)).expect("the file is there");
+        assert!(text.contains(old), "{file} does not have {old:?}");
+        self.write(file, &text.replacen(old, new, 1));
+    }
+
+    pub fn append(&self, file: &str, more: &str) {
+        let text = fs::read_to_string(self.path(file)).expect("the file is there");
+        self.write(file, &(text + more));
+    }
+
+    /// How a script ends here.
+    pub fn run(&self, script: &str) -> Ended {
+        let output = Command::new("bash").arg(self.path(script)).output();
+        Ended(output.expect("the script starts"))
+    }
+}
+
+impl Drop for Copy {
+    fn drop(&mut self) {
+        // What is left in a temporary folder does no harm.
+        let _ = fs::remove_dir_all(&self.folder);
+    }
+}
+
+pub struct Ended(Output);
+
+impl Ended {
+    pub fn printed(&self) -> String {
+        String::from_utf8_lossy(&self.0.stdout).into_owned()
+    }
+
+    fn told(&self) -> String {
+        String::from_utf8_lossy(&self.0.stderr).into_owned()
+    }
+
+    pub fn assert_passed(&self) {
+        assert!(self.0.status.success(), "{}{}", self.printed(), self.told());
+        assert_eq!(self.told(), "");
+    }
+
+    /// It failed, and told these lines alone.
+    pub fn assert_told(&self, lines: &[&str]) {
+        assert_eq!(self.0.status.code(), Some(1), "{}{}", self.printed(), self.told());
+        let told = self.told();
+        assert_eq!(told.lines().collect::<Vec<_>>(), lines);
+    }
+}
+
+fn root() -> PathBuf {
+    let package = env::var_os("CARGO_MANIFEST_DIR").expect("cargo names the package's folder");
+    Path::new(&package).join("../..")
+}
+
+fn duplicate(from: &Path, to: &Path) {
+    if from.is_dir() {
+        fs::create_dir_all(to).expect("a folder for the copy");
+        for entry in fs::read_dir(from).expect("the folder can be read") {
+            let name = entry.expect("an entry").file_name();
+            duplicate(&from.join(&name), &to.join(&name));
+        }
+    } else {
+        fs::copy(from, to).expect("the file can be copied");
+    }
+}
