@@ -1,9 +1,9 @@
--- Document 01, "Run files and the run program": digits, the text of a record, lines. Assumes nothing.
+-- Document 01, "Run files and the run program": digits, the text of a record, lines.
 use Prim.Native.Nat.{ℕ, zero, suc, _+_, _*_, _-_, _/_, _%_, _^_}
 use mathlib.Core.Bool.{Bool, true, cond, _&&_, _||_}
 use mathlib.Core.List.{List, [], _∷_, _++_}
 use lib.Dec.{eqb, ltb, leb}
-use lib.ListN.{length, getD}
+use lib.ListN.{length, getD, take}
 use Rattle.rules.specs.Counting.{rows, tabulate}
 
 -- the character of a digit below 16: 0-9, a-f
@@ -68,3 +68,17 @@ hasLine k text = leb 1 k && leb k (length (linesOf text))
 -- line k, "and an empty part if there is no such line"
 unfoldable pub lineAt : ℕ → List ℕ → List ℕ
 lineAt k text = cond (hasLine k text) (getD (linesOf text) (k - 1) []) []
+
+-- how many characters some lines have, each with its line feed
+unfoldable pub spanOf : List (List ℕ) → ℕ
+spanOf [] = 0
+spanOf (line ∷ others) = length line + 1 + spanOf others
+
+-- "that part of the caller's own text": line k begins behind the lines before it; the empty part for a missing line begins
+-- where the text does
+unfoldable pub startOf : ℕ → List ℕ → ℕ
+startOf k text = cond (hasLine k text) (spanOf (take (k - 1) (linesOf text))) 0
+
+-- "without its line feed": where the part ends
+abbrev pub endOf : ℕ → List ℕ → ℕ
+endOf k text = startOf k text + length (lineAt k text)

@@ -1,34 +1,41 @@
--- Two results that a contract allows coincide, for each public routine. Assumes nothing.
-use mathlib.Core.Path.{_≡_}
+-- Two results that a contract allows coincide, for all inputs.
+use mathlib.Core.Path.{_≡_, refl}
 use mathlib.Core.List.{List}
 use Prim.Native.Nat.{ℕ}
-use lib.ListN.{length}
-use Rattle.rules.specs.Text.{lineAt}
-use Rattle.rules.specs.Refusals.{writeRefusal, readRefusal, lineRefusal}
-use Rattle.rules.specs.Calls.{writeOut, readOut}
-use Rattle.rules.proofs.Determined.{only-one, both-only}
-use Rattle.text.specs.Lines.{endFrom}
+use Rattle.rules.proofs.Determined.{DeterminedAs, Determined, only-one}
+use Rattle.text.proofs.write_record.Kinds as write-record-kinds
+use Rattle.text.proofs.write_record.Reads as write-record-reads
+use Rattle.text.proofs.read_record.Kinds as read-record-kinds
+use Rattle.text.proofs.read_record.Reads as read-record-reads
+use Rattle.text.proofs.line.Kinds as line-kinds
+use Rattle.text.proofs.line.Reads as line-reads
+use Rattle.text.proofs.line_refusal.Kinds as line-refusal-kinds
+use Rattle.text.proofs.line_refusal.Reads as line-refusal-reads
+use Rattle.text.proofs.lines.line_end.Kinds as line-end-kinds
+use Rattle.text.proofs.lines.line_end.Reads as line-end-reads
+use Rattle.text.specs.declared.lines.Place.{Place}
+use Rattle.text.proofs.lines.place_of.Kinds as place-kinds
+use Rattle.text.proofs.lines.place_of.Reads as place-reads
 
--- the answer and the buffer at exit, as the contracts of the two calls on records have them
-abbrev Written : ℕ → ℕ → List ℕ → List ℕ → ℕ → List ℕ → Type 0
-Written n f words out r exit = (r ≡ writeRefusal n f (length words) (length out)) × (exit ≡ writeOut n f words out)
+pub write-record-determined : Determined write-record-kinds.ps write-record-kinds.r write-record-reads.Pre write-record-reads.Post
+write-record-determined = (λ κs a. tt, λ κs a x y v w p q. (only-one (p .0) (q .0), rw (only-one (p .1) (q .1))))
 
-abbrev Read : ℕ → ℕ → List ℕ → List ℕ → ℕ → List ℕ → Type 0
-Read n f text out r exit = (r ≡ readRefusal n f text (length out)) × (exit ≡ readOut n f text out)
+pub read-record-determined : Determined read-record-kinds.ps read-record-kinds.r read-record-reads.Pre read-record-reads.Post
+read-record-determined = (λ κs a. tt, λ κs a x y v w p q. (only-one (p .0) (q .0), rw (only-one (p .1) (q .1))))
 
-pub write-record-determined : (n f : ℕ) (words out : List ℕ) (r s : ℕ) (p q : List ℕ)
-    → Written n f words out r p → Written n f words out s q → (r ≡ s) × (p ≡ q)
-write-record-determined n f words out r s p q x y = both-only x y
+-- of a part is seen what it holds, and where in the memory it begins
+pub line-determined : DeterminedAs line-kinds.ps line-kinds.r line-reads.Pre line-reads.Post (λ κs. List ℕ × (ℕ × ℕ)) (λ κs r. (r .now, r .ptr))
+line-determined = (λ κs a. tt, λ κs a x y v w p q. (rw (only-one (p .0) (q .0), only-one (p .1) (q .1)), refl))
 
-pub read-record-determined : (n f : ℕ) (text out : List ℕ) (r s : ℕ) (p q : List ℕ)
-    → Read n f text out r p → Read n f text out s q → (r ≡ s) × (p ≡ q)
-read-record-determined n f text out r s p q x y = both-only x y
+pub line-refusal-determined : Determined line-refusal-kinds.ps line-refusal-kinds.r line-refusal-reads.Pre line-refusal-reads.Post
+line-refusal-determined = (λ κs a. tt, λ κs a x y v w p q. (only-one p q, refl))
 
-pub line-determined : (k : ℕ) (text p q : List ℕ) → p ≡ lineAt k text → q ≡ lineAt k text → p ≡ q
-line-determined k text p q x y = only-one x y
+pub line-end-determined : Determined line-end-kinds.ps line-end-kinds.r line-end-reads.Pre line-end-reads.Post
+line-end-determined = (λ κs a. tt, λ κs a x y v w p q. (only-one p q, refl))
 
-pub line-refusal-determined : (k : ℕ) (text : List ℕ) (r s : ℕ) → r ≡ lineRefusal k text → s ≡ lineRefusal k text → r ≡ s
-line-refusal-determined k text r s x y = only-one x y
+-- a place is its three parts
+same-place : (a b : Place) → a .found ≡ b .found → a .start ≡ b .start → a .end ≡ b .end → a ≡ b
+same-place a b found start end = λ i. record { found = found i; start = start i; end = end i }
 
-pub line-end-determined : (text : List ℕ) (start x y : ℕ) → x ≡ endFrom text start → y ≡ endFrom text start → x ≡ y
-line-end-determined text start x y p q = only-one p q
+pub place-determined : Determined place-kinds.ps place-kinds.r place-reads.Pre place-reads.Post
+place-determined = (λ κs a. tt, λ κs a x y v w p q. (same-place x y (only-one (p .found) (q .found)) (only-one (p .start) (q .start)) (only-one (p .end) (q .end)), refl))

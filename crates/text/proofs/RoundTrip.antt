@@ -1,4 +1,4 @@
--- What is written reads back, and no second text reads as the same record. Assumes nothing.
+-- What is written reads back, and no second text reads as the same record: of words and texts, and of the calls themselves.
 use mathlib.Core.Path.{_≡_, refl, sym, ap, _∙_}
 use mathlib.Core.Bool.{true}
 use mathlib.Core.List.{List}
@@ -16,7 +16,7 @@ use Rattle.rules.proofs.Tests.{and-both}
 use Rattle.rules.proofs.Shapes.{not-given}
 use Rattle.digits.proofs.Hexadecimal.{formed, digit-at, digits-all, hex-length, hex-digits, hex-of-number, number-of-hex, number-same, number-below}
 use Rattle.digits.proofs.WordsOfText.{words-length, word-in, text-length, digit-in}
-use Rattle.text.proofs.Accepted.{write-accepted}
+use Rattle.text.proofs.Accepted.{write-accepted, read-accepted}
 
 -- the text of any words is well formed
 pub written-formed : (words : List ℕ) → wellFormed (4 * length words) (textOf words) ≡ true
@@ -76,3 +76,22 @@ written-is-read n f words out back e h m =
     let t : wellFormed (4 * recordWords f) (textOf words) ≡ true = rw (w .0) at (written-formed words) in
     let r : readRefusal n f (textOf words) (length back) ≡ 0 = rw (p .0, q .0, eq-eqb (length back) (recordWords f) m, t) in
     rw (e, r) (refl, rw (← (w .0)) (reads-back words h))
+
+-- and a text that is read is what is written of its record
+pub read-is-written : (n f : ℕ) (text back out : List ℕ) → readRefusal n f text (length back) ≡ 0 → length out ≡ 4 * recordWords f
+    → (writeRefusal n f (length (readOut n f text back)) (length out) ≡ 0) × (writeOut n f (readOut n f text back) out ≡ text)
+unfolding writeOut readOut
+read-is-written n f text back out e m =
+    let p = not-given 1 (badCards n) _ (omega arith) e in
+    let q = not-given 2 (badBroken n f) _ (omega arith) (p .1) in
+    let t = read-accepted n f text (length back) e in
+    let size = eq-eqb (length (wordsAt text 0 (recordWords f))) (recordWords f) (words-length text 0 (recordWords f)) in
+    let w : writeRefusal n f (length (wordsAt text 0 (recordWords f))) (length out) ≡ 0 = rw (p .0, q .0, size, eq-eqb (length out) (4 * recordWords f) m) in
+    rw (e, w) (refl, no-second-text (recordWords f) text (t .1))
+
+-- so no second text is read as the same record
+pub no-second-text-read : (n f : ℕ) (s t back other : List ℕ) → readRefusal n f s (length back) ≡ 0 → readRefusal n f t (length other) ≡ 0
+    → readOut n f s back ≡ readOut n f t other → s ≡ t
+unfolding readOut
+no-second-text-read n f s t back other p q e =
+    same-record-same-text (recordWords f) s t (read-accepted n f s (length back) p .1) (read-accepted n f t (length other) q .1) (rw (p, q) at e)

@@ -1,7 +1,9 @@
 // Text: a record as text and back, and the lines of a text (document 01, "Run files and the run program").
 ghost use mathlib.Core.Path.{_≡_};
+ghost use Prim.Native.Nat.{_+_};
 ghost use lib.ListN.{length};
-ghost use Rattle.rules.specs.Text.{lineAt};
+ghost use denote.Ref.{ptr};
+ghost use Rattle.rules.specs.Text.{lineAt, startOf};
 ghost use Rattle.rules.specs.Refusals.{writeRefusal, readRefusal, lineRefusal};
 ghost use Rattle.rules.specs.Calls.{writeOut, readOut};
 use digits::words;
@@ -68,9 +70,10 @@ pub fn read_record(n: u32, f: u32, text: &[u8], out: &mut [u16]) -> u32
     0
 }
 
-// Line k, "counted from 1": "the part without its line feed, and an empty part if there is no such line".
+// Line k, "counted from 1": "the part without its line feed, and an empty part if there is no such line". The contract says
+// what the part holds and where in the caller's own text it begins.
 pub fn line(text: &[u8], k: u32) -> &[u8]
-    ensures { λ r. ⌜ now r ≡ lineAt k (now (text .entry)) ⌝ }
+    ensures { λ r. ⌜ (now r ≡ lineAt k (now (text .entry))) × (ptr r ≡ (ptr (text .entry) .0, startOf k (now (text .entry)) + ptr (text .entry) .1)) ⌝ }
 {
     let place = lines::place_of(text, k);
     let start = place.start;
