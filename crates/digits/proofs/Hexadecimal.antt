@@ -75,6 +75,18 @@ digits-all [] h = refl
 digits-all (ch ∷ rest) h =
     and-both (isDigit ch) (allDigits rest) (h 0 (omega arith)) (digits-all rest (λ i l. h (suc i) (omega arith)))
 
+-- texts of digits, one after the other
+pub digits-append : (s t : List ℕ) → allDigits s ≡ true → allDigits t ≡ true → allDigits (s ++ t) ≡ true
+unfolding allDigits
+digits-append [] t p q = q
+digits-append (ch ∷ s) t p q =
+    and-both (isDigit ch) (allDigits (s ++ t)) (and-left (isDigit ch) (allDigits s) p) (digits-append s t (and-right (isDigit ch) (allDigits s) p) q)
+
+pub digits-rows : (n : ℕ) (g : ℕ → List ℕ) → ((i : ℕ) → allDigits (g i) ≡ true) → allDigits (rows n g) ≡ true
+unfolding allDigits rows
+digits-rows zero g h = refl
+digits-rows (suc n) g h = digits-append (rows n g) (g n) (digits-rows n g h) (h n)
+
 -- one character less to look at
 pub digits-from : (text : List ℕ) (i : ℕ) → i < length text → allDigits (drop i text) ≡ isDigit (getD text i 0) && allDigits (drop (i + 1) text)
 unfolding allDigits
@@ -115,6 +127,10 @@ unfolding numberAt
 number-same s t a b zero h = refl
 number-same s t a b (suc k) h = rw (number-same s t a b k (λ j l. h j (omega arith)), h k (omega arith))
 
+-- and what comes behind them does not
+pub number-front : (s t : List ℕ) (k : ℕ) → k ≤ length s → numberAt (s ++ t) 0 k ≡ numberAt s 0 k
+number-front s t k h = number-same (s ++ t) s 0 0 k (λ j l. before-seam s t (0 + j) (omega arith))
+
 -- k digits make a number below 16 ^ k
 pub number-below : (text : List ℕ) (at k : ℕ) → allDigits text ≡ true → at + k ≤ length text → numberAt text at k < 16 ^ k
 unfolding numberAt
@@ -138,8 +154,7 @@ number-of-hex (suc k) x l =
     let s : List ℕ = hexOf k (x / 16) in
     let t : List ℕ = digitOf (x % 16) ∷ [] in
     let d : getD (s ++ t) (0 + k) 0 ≡ digitOf (x % 16) = ap (λ (j : ℕ). getD (s ++ t) j 0) (omega arith) ∙ getD-at s _ [] 0 k (hex-length k (x / 16)) in
-    let n : numberAt (s ++ t) 0 k ≡ numberAt s 0 k = number-same (s ++ t) s 0 0 k (λ j l. before-seam s t (0 + j) (omega (arith, hex-length k (x / 16)))) in
-    rw (hex-last k x, d, n, number-of-hex k (x / 16) (omega (arith, pow-suc 16 k)), value-of-digit (x % 16) (omega arith)) (omega arith)
+    rw (hex-last k x, d, number-front s t k (omega (arith, hex-length k (x / 16))), number-of-hex k (x / 16) (omega (arith, pow-suc 16 k)), value-of-digit (x % 16) (omega arith)) (omega arith)
 
 pub hex-none : (x : ℕ) → hexOf 0 x ≡ []
 unfolding hexOf rows

@@ -10,10 +10,11 @@ use borrow.Author.Tests.{lt-ltb, ne-eqb, eqb-true}
 use lib.Dec.{eqb}
 use lib.ListN.{length, take, getD, length-append}
 use lib.Seq.{take-all, take-append-le, length-take-le, take-suc, append-snoc}
-use Rattle.rules.specs.Text.{lineFeed, oneMore, inFront, linesOf, wellFormed}
+use Rattle.rules.specs.Text.{lineFeed, linesOf, wellFormed}
 use Rattle.rules.specs.RunFile.{Run, atHeader, atStart, atBeat, Taken, accepted, refused, headerRefusal, startRefusal, beatRefusal, startWords, beatWords, orRefused, takeLine, continued, runLines, runText}
 use Rattle.rules.proofs.Tests.{decided, le-or-lt}
 use Rattle.rules.proofs.Shapes.{not-given}
+use Rattle.rules.proofs.Lines.{noFeed, no-feed-more, no-lines, line-alone, line-first}
 use Rattle.text.specs.Lines.{lineLength}
 use Rattle.frames.proofs.Headers.{start-most, sent-most}
 use Rattle.runfile.specs.Runs.{runTests, takenLine}
@@ -95,31 +96,6 @@ next-line (atStart h) next line text e t =
 next-line (atBeat h beat table) next line text e t =
     let u = unrefused (beatRefusal h beat line) _ next _ text t in
     rw (← (u .1)) (e, omega arith)
-
--- no line feed
-unfoldable noFeed : List ℕ → Type 0
-noFeed [] = Unit
-noFeed (ch ∷ rest) = (eqb ch lineFeed ≡ false) × noFeed rest
-
-no-feed-more : (line : List ℕ) (ch : ℕ) → noFeed line → eqb ch lineFeed ≡ false → noFeed (line ++ (ch ∷ []))
-unfolding noFeed
-no-feed-more [] ch p e = (e, tt)
-no-feed-more (x ∷ line) ch p e = (p .0, no-feed-more line ch (p .1) e)
-
--- the lines of a text by its first line
-no-lines : linesOf [] ≡ []
-unfolding linesOf
-no-lines = refl
-
-line-alone : (ch : ℕ) (line : List ℕ) → noFeed (ch ∷ line) → linesOf (ch ∷ line) ≡ (ch ∷ line) ∷ []
-unfolding noFeed linesOf inFront oneMore
-line-alone ch [] p = rw (p .0)
-line-alone ch (x ∷ line) p = rw (p .0, line-alone x line (p .1))
-
-line-first : (line rest : List ℕ) → noFeed line → linesOf (line ++ (lineFeed ∷ rest)) ≡ line ∷ linesOf rest
-unfolding noFeed linesOf inFront oneMore
-line-first [] rest p = refl
-line-first (ch ∷ line) rest p = rw (p .0, line-first line rest (p .1))
 
 -- one line is taken, and then the others are
 after-line : (run : Run) (written : List ℕ) (t : Taken) (goOn : Feed → List ℕ) (others : Run → List ℕ)

@@ -2,15 +2,13 @@
 use mathlib.Core.Path.{_≡_, sym, _∙_}
 use mathlib.Core.Logic.{⊎-elim}
 use mathlib.Core.Bool.{Bool, true, false, not, _&&_}
-use mathlib.Core.List.{List}
-use Prim.Native.Nat.{ℕ, _+_, _≤_}
+use Prim.Native.Nat.{ℕ}
 use native.Mathlib.Omega.{arith}
 use lib.Dec.{eqb, leb}
-use borrow.Author.Tests.{eqb-true, leb-true, not-false}
+use borrow.Author.Tests.{eqb-true, not-false}
 use Rattle.rules.specs.Refusals.{given}
-use Rattle.rules.specs.Text.{wellFormed}
-use Rattle.rules.specs.RunFile.{Header, frameDigits, beatOf, startWords, beatWords, lastBeat, startRefusal, beatRefusal}
-use Rattle.rules.proofs.Tests.{decided, and-left, and-right}
+use Rattle.rules.specs.RunFile.{lastBeat}
+use Rattle.rules.proofs.Tests.{decided}
 use Rattle.rules.proofs.Shapes.{not-given}
 
 -- 10, or 11 where the beat is another
@@ -35,22 +33,3 @@ frame-passed malformed beat next r e z =
     let q = not-given 11 (not (eqb beat next)) 0 (omega arith) (p .1) in
     let same : eqb beat next ≡ true = not-false (eqb beat next) (q .0) in
     rw (p .0, same, eqb-true beat next same)
-
--- a frame that is not refused is well formed
-pub start-formed : (h : Header) (line : List ℕ) → startRefusal h line ≡ 0 → wellFormed (frameDigits (startWords h)) line ≡ true
-unfolding startRefusal
-start-formed h line e =
-    let formed = wellFormed (frameDigits (startWords h)) line in
-    not-false formed (not-given 10 (not formed) _ (omega arith) e .0)
-
--- and its beat is the next, which is none after the last
-pub beat-formed : (h : Header) (beat : ℕ) (line : List ℕ) → beatRefusal h beat line ≡ 0
-    → (wellFormed (frameDigits (beatWords h)) line ≡ true) × (beat + 1 ≤ lastBeat)
-unfolding beatRefusal
-beat-formed h beat line e =
-    let formed = wellFormed (frameDigits (beatWords h)) line in
-    let p = not-given 10 (not formed) _ (omega arith) e in
-    let same = eqb (beatOf line) (beat + 1) in
-    let q = not-false _ (not-given 11 (not (same && leb (beatOf line) lastBeat)) 0 (omega arith) (p .1) .0) in
-    let b : beatOf line ≡ beat + 1 = eqb-true (beatOf line) (beat + 1) (and-left same (leb (beatOf line) lastBeat) q) in
-    (not-false formed (p .0), rw b at (leb-true (beatOf line) lastBeat (and-right same (leb (beatOf line) lastBeat) q)))

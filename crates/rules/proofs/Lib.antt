@@ -7,4 +7,6 @@ pub mod Shapes
 pub mod Halves
 pub mod Heard
 pub mod Records
+pub mod Lines
+pub mod RunFiles
 pub mod Determined

@@ -73,12 +73,23 @@ good-modulus c e =
     let t = neither (ltb c leastModulus) (ltb mostModulus c) e in
     (ltb-false c leastModulus (t .0), ltb-false mostModulus c (t .1))
 
--- where refusals 1, 2 and 3 are not given
-pub counter-shape : (n f c : ℕ) → shapeRefusal n f c 0 ≡ 0 → Shape n f
-counter-shape n f c e =
+-- where neither refusals 1, 2 and 3 are given nor one after them
+pub record Counter (n f c others : ℕ) : Type 0 where
+  pub shape : Shape n f
+  pub least : leastModulus ≤ c
+  pub most : c ≤ mostModulus
+  pub passed : others ≡ 0
+
+pub counter-accepted : (n f c others : ℕ) → shapeRefusal n f c others ≡ 0 → Counter n f c others
+counter-accepted n f c others e =
     let p = not-given 1 (badCards n) _ (omega arith) e in
     let q = not-given 2 (badBroken n f) _ (omega arith) (p .1) in
-    good-shape n f (p .0) (q .0)
+    let m = not-given 3 (badModulus c) others (omega arith) (q .1) in
+    let g = good-modulus c (m .0) in
+    record { shape = good-shape n f (p .0) (q .0); least = g .0; most = g .1; passed = m .1 }
+
+pub counter-shape : (n f c : ℕ) → shapeRefusal n f c 0 ≡ 0 → Shape n f
+counter-shape n f c e = counter-accepted n f c 0 e .shape
 
 -- where the parameters of n and f are not refused
 pub accepted : (n f : ℕ) → paramsRefusal n f ≡ 0 → Shape n f
@@ -105,19 +116,16 @@ right size needed e = eqb-true size needed (not-false (eqb size needed) e)
 pub beat-accepted : (n f c set held sent out : ℕ) → beatRefusal n f c set held sent out ≡ 0 → Beat n f c set held sent out
 unfolding badSet
 beat-accepted n f c set held sent out e =
-    let p = not-given 1 (badCards n) _ (omega arith) e in
-    let q = not-given 2 (badBroken n f) _ (omega arith) (p .1) in
-    let m = not-given 3 (badModulus c) _ (omega arith) (q .1) in
-    let s = not-given 7 (badSet n f set) _ (omega arith) (m .1) in
+    let a = counter-accepted n f c _ e in
+    let s = not-given 7 (badSet n f set) _ (omega arith) (a .passed) in
     let h = not-given 5 (wrong held (n * recordWords f)) _ (omega arith) (s .1) in
     let w = not-given 8 (wrong sent (sentWords n f set)) _ (omega arith) (h .1) in
     let o = not-given 6 (wrong out (n * recordWords f)) 0 (omega arith) (w .1) in
-    let g = good-modulus c (m .0) in
     let b = neither (leb (2 ^ n) set) (ltb f (brokenBelow set n)) (s .0) in
     record {
-      shape = good-shape n f (p .0) (q .0);
-      least = g .0;
-      most = g .1;
+      shape = a .shape;
+      least = a .least;
+      most = a .most;
       set-below = leb-false (2 ^ n) set (b .0);
       set-few = ltb-false f (brokenBelow set n) (b .1);
       held-whole = right held (n * recordWords f) (h .0);
@@ -136,17 +144,14 @@ pub record Step (n f c card records out : ℕ) : Type 0 where
 
 pub step-accepted : (n f c card records out : ℕ) → stepRefusal n f c card records out ≡ 0 → Step n f c card records out
 step-accepted n f c card records out e =
-    let p = not-given 1 (badCards n) _ (omega arith) e in
-    let q = not-given 2 (badBroken n f) _ (omega arith) (p .1) in
-    let m = not-given 3 (badModulus c) _ (omega arith) (q .1) in
-    let k = not-given 4 (leb n card) _ (omega arith) (m .1) in
+    let a = counter-accepted n f c _ e in
+    let k = not-given 4 (leb n card) _ (omega arith) (a .passed) in
     let r = not-given 5 (wrong records (n * recordWords f)) _ (omega arith) (k .1) in
     let o = not-given 6 (wrong out (recordWords f)) 0 (omega arith) (r .1) in
-    let g = good-modulus c (m .0) in
     record {
-      shape = good-shape n f (p .0) (q .0);
-      least = g .0;
-      most = g .1;
+      shape = a .shape;
+      least = a .least;
+      most = a .most;
       card-below = leb-false n card (k .0);
       records-whole = right records (n * recordWords f) (r .0);
       out-whole = right out (recordWords f) (o .0);
@@ -155,7 +160,5 @@ step-accepted n f c card records out e =
 -- where the shown count is not refused
 pub shown-accepted : (n f c words : ℕ) → shownRefusal n f c words ≡ 0 → (words ≡ recordWords f) × (c ≤ mostModulus)
 shown-accepted n f c words e =
-    let p = not-given 1 (badCards n) _ (omega arith) e in
-    let q = not-given 2 (badBroken n f) _ (omega arith) (p .1) in
-    let m = not-given 3 (badModulus c) _ (omega arith) (q .1) in
-    (right words (recordWords f) (not-given 5 (wrong words (recordWords f)) 0 (omega arith) (m .1) .0), good-modulus c (m .0) .1)
+    let a = counter-accepted n f c _ e in
+    (right words (recordWords f) (not-given 5 (wrong words (recordWords f)) 0 (omega arith) (a .passed) .0), a .most)

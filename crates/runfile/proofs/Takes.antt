@@ -15,8 +15,8 @@ use Rattle.rules.specs.RunFile.{Header, Run, atHeader, Taken, accepted, startWo
 use Rattle.rules.proofs.Tests.{decided}
 use Rattle.rules.proofs.Lists.{rows-length}
 use Rattle.rules.proofs.Records.{record-length}
+use Rattle.rules.proofs.RunFiles.{beat-passed}
 use Rattle.frames.specs.Headers.{testsOf}
-use Rattle.frames.proofs.Headers.{beat-passed}
 use Rattle.runfile.specs.declared.Run.{Run as Kept}
 use Rattle.runfile.specs.declared.Run.the-variants.{AtHeader, AtStart, AtBeat}
 use Rattle.runfile.specs.declared.Taken.{Taken as Answer}

@@ -14,20 +14,17 @@ use Rattle.rules.specs.Calls.{writeOut, readOut}
 use Rattle.rules.specs.Text.{hexOf, allDigits, wellFormed, textOf, wordsAt}
 use Rattle.rules.proofs.Tests.{and-both}
 use Rattle.rules.proofs.Shapes.{not-given}
-use Rattle.digits.proofs.Hexadecimal.{formed, digit-at, digits-all, hex-length, hex-digits, hex-of-number, number-of-hex, number-same, number-below}
+use Rattle.digits.proofs.Hexadecimal.{formed, digits-rows, hex-digits, hex-of-number, number-of-hex, number-same, number-below}
 use Rattle.digits.proofs.WordsOfText.{words-length, word-in, text-length, digit-in}
 use Rattle.text.proofs.Accepted.{write-accepted, read-accepted}
 
 -- the text of any words is well formed
 pub written-formed : (words : List ℕ) → wellFormed (4 * length words) (textOf words) ≡ true
-unfolding wellFormed
+unfolding wellFormed textOf
 written-formed words =
     and-both (eqb (length (textOf words)) (4 * length words)) (allDigits (textOf words))
     (eq-eqb (length (textOf words)) (4 * length words) (text-length words))
-    (digits-all (textOf words) (λ p l.
-    let w = getD words (p / 4) 0 in
-    rw (digit-in words (p / 4) (p % 4) p (omega arith) (omega (arith, text-length words)) (omega arith))
-    (digit-at (hexOf 4 w) (hex-digits 4 w) (p % 4) (omega (arith, hex-length 4 w)))))
+    (digits-rows (length words) (λ (i : ℕ). hexOf 4 (getD words i 0)) (λ i. hex-digits 4 (getD words i 0)))
 
 -- what is written reads back: words of 16 bits are kept as they are, in range or not
 pub reads-back : (words : List ℕ) → ((i : ℕ) → i < length words → getD words i 0 < 65536) → wordsAt (textOf words) 0 (length words) ≡ words

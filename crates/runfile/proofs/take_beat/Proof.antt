@@ -7,9 +7,9 @@ use native.Mathlib.Omega.{arith}
 use lib.ListN.{length}
 use Rattle.rules.specs.Text.{wellFormed}
 use Rattle.rules.specs.RunFile.{frameDigits, startWords, beatWords, lastBeat, beatRefusal, outputLine, atBeat, takeLine}
+use Rattle.rules.proofs.RunFiles.{beat-formed}
 use Rattle.frames.specs.Headers.{said}
 use Rattle.frames.proofs.Headers.{start-most}
-use Rattle.frames.proofs.Frames.{beat-formed}
 use Rattle.frames.proofs.Shown.{line-of-stored}
 use Rattle.runfile.specs.declared.Run.the-variants.{AtBeat}
 use Rattle.runfile.specs.Runs.{standing, keptOf, tableOf, tableNext}

@@ -7,10 +7,10 @@ use lib.ListN.{length}
 use lib.Seq.{sets}
 use Rattle.rules.specs.Text.{wordsAt}
 use Rattle.rules.specs.RunFile.{startWords, startRefusal, outputLine, atBeat, takeLine}
+use Rattle.rules.proofs.RunFiles.{start-formed}
 use Rattle.digits.proofs.WordsOfText.{words-length}
 use Rattle.frames.specs.Headers.{said}
 use Rattle.frames.proofs.Headers.{start-most}
-use Rattle.frames.proofs.Frames.{start-formed}
 use Rattle.frames.proofs.Shown.{line-of-stored}
 use Rattle.runfile.specs.declared.Run.the-variants.{AtStart}
 use Rattle.runfile.specs.Runs.{keptOf, tableOf}

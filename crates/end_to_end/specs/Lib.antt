@@ -1,0 +1,2 @@
+pub mod OnBytes
+pub mod RunFiles
