@@ -1,4 +1,4 @@
--- A card's next record, from the words of the outermost group. Assumes nothing.
+-- A card's next record, from the words of the outermost group.
 use mathlib.Core.Path.{_≡_, refl, ap, _∙_, fun-ext}
 use mathlib.Core.List.{List}
 use Prim.Native.Nat.{ℕ, zero, suc, _-_, _≤_}

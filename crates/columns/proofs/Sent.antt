@@ -1,5 +1,5 @@
 -- How many cards sent a value, as the cards are gone through one by one; the vote and the smallest supported count, by what
--- such a search finds. Assumes nothing.
+-- such a search finds.
 use mathlib.Core.Path.{_≡_, refl, sym, ap, _∙_}
 use mathlib.Core.Bool.{Bool, true, false, not, _&&_}
 use mathlib.Core.Logic.{⊎-elim}

@@ -1,4 +1,4 @@
--- A tally of what the cards sent, and the value that leads. Assumes nothing.
+-- A tally of what the cards sent, and the value that leads.
 use mathlib.Core.Path.{_≡_, refl, sym, ap, _∙_}
 use mathlib.Core.Logic.{_⊎_, inl, inr, ⊎-elim}
 use mathlib.Core.Bool.{Bool, true, false}

@@ -1,4 +1,4 @@
--- A column of a table of records: the same word of some cards that stand side by side. Assumes nothing.
+-- A column of a table of records: the same word of some cards that stand side by side.
 use Prim.Native.Nat.{ℕ, _+_, _*_, _≤_, _<_, min}
 use mathlib.Core.Bool.{Bool, cond, _&&_}
 use mathlib.Core.List.{List}

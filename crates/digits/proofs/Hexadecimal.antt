@@ -1,4 +1,4 @@
--- Laws of digits: a digit and its value, a number and its digits, over the number of digits. Assumes nothing.
+-- Laws of digits: a digit and its value, a number and its digits, over the number of digits.
 use mathlib.Core.Path.{_≡_, refl, sym, ap, _∙_}
 use mathlib.Core.Logic.{_⊎_, inl, inr, ⊎-elim}
 use mathlib.Core.Bool.{Bool, true, false, _&&_, _||_}

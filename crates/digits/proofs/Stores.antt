@@ -1,4 +1,4 @@
--- Laws of storing lists one after the other. Assumes nothing.
+-- Laws of storing lists one after the other.
 use mathlib.Core.Path.{_≡_, refl, _∙_}
 use mathlib.Core.List.{List, [], _∷_, _++_, append-nil}
 use Prim.Native.Nat.{ℕ, suc, _+_, _*_, _≤_}

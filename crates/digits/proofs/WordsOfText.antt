@@ -1,4 +1,4 @@
--- Laws of words and their text: how long they are, and what stands where. Assumes nothing.
+-- Laws of words and their text: how long they are, and what stands where.
 use mathlib.Core.Path.{_≡_}
 use mathlib.Core.List.{List}
 use Prim.Native.Nat.{ℕ, _+_, _*_, _<_}

@@ -1,4 +1,4 @@
--- Laws of the refusals of a frame: 10, 11, and the last beat. Assumes nothing.
+-- Laws of the refusals of a frame: 10, 11, and the last beat.
 use mathlib.Core.Path.{_≡_, sym, _∙_}
 use mathlib.Core.Logic.{⊎-elim}
 use mathlib.Core.Bool.{Bool, true, false, not, _&&_}

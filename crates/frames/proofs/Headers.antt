@@ -1,4 +1,4 @@
--- What is known of a header whose tests are passed, and how long its lines are. Assumes nothing.
+-- What is known of a header whose tests are passed, and how long its lines are.
 use mathlib.Core.Path.{_≡_, refl}
 use Prim.Native.Nat.{_*_, _≤_}
 use native.Mathlib.Nat.{mul-le-mul}

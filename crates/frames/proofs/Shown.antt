@@ -1,4 +1,4 @@
--- Laws of the output line: a card's word is read in its record, and the line is stored part by part. Assumes nothing.
+-- Laws of the output line: a card's word is read in its record, and the line is stored part by part.
 use mathlib.Core.Path.{_≡_, refl, sym, _∙_}
 use mathlib.Core.Bool.{Bool, true, false}
 use mathlib.Core.List.{List, [], _∷_, _++_}

@@ -1,4 +1,4 @@
--- Laws of words that are stored at the start of a buffer. Assumes nothing.
+-- Laws of words that are stored at the start of a buffer.
 use mathlib.Core.Path.{_≡_, refl, sym, _∙_}
 use mathlib.Core.List.{List, _++_}
 use Prim.Native.Nat.{ℕ, _+_, _≤_, _<_}

@@ -1,4 +1,4 @@
--- Line 1's struct, by the rules' own record, and its tests. Assumes nothing.
+-- Line 1's struct, by the rules' own record, and its tests.
 use Prim.Native.Nat.{ℕ}
 use Rattle.rules.specs.WholeBeat.{badSet}
 use Rattle.rules.specs.Refusals.{given, shapeRefusal}

@@ -1,4 +1,4 @@
--- What a group writes: its one word, or its eight and then those of the card's own half. Assumes nothing.
+-- What a group writes: its one word, or its eight and then those of the card's own half.
 use mathlib.Core.Path.{_≡_, refl, sym, ap, _∙_}
 use mathlib.Core.List.{List, [], _∷_, _++_}
 use Prim.Native.Nat.{ℕ, zero, suc, _+_, _-_, _≤_, _<_}

@@ -1,4 +1,4 @@
--- The next words of a card's own half, by the rules. Assumes nothing.
+-- The next words of a card's own half, by the rules.
 use mathlib.Core.List.{List}
 use Prim.Native.Nat.{ℕ, _-_}
 use Rattle.rules.specs.Groups.{halfOf, halfFirst, halfCards, halfBroken, halfModulus, heardInHalf}

@@ -1,4 +1,4 @@
--- What is known of the inputs of a lag that is not refused. Assumes nothing.
+-- What is known of the inputs of a lag that is not refused.
 use mathlib.Core.Path.{_≡_}
 use mathlib.Core.Bool.{_||_}
 use Prim.Native.Nat.{ℕ, _≤_, _<_}

@@ -1,5 +1,4 @@
 -- An integer is its gain less its loss: sums, multiples, order and equality of integers, read off those two numbers.
--- Assumes nothing.
 use mathlib.Core.Path.{_≡_, refl, ap}
 use mathlib.Core.Logic.{⊎-elim}
 use mathlib.Core.Bool.{true, false}

@@ -1,4 +1,4 @@
--- A difference below 2^31 and its opposite, as i32. Assumes nothing.
+-- A difference below 2^31 and its opposite, as i32.
 use mathlib.Core.Path.{_≡_, _∙_}
 use Prim.Native.Nat.{ℕ, zero, suc, _^_, _<_}
 use native.Mathlib.Omega.{arith}

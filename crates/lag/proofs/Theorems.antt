@@ -1,5 +1,5 @@
 -- The lag of x against y is the one number congruent to x - y modulo c that is above -c/2 and at most c/2; and its values
--- at 0, at half a turn and at both ends. Assumes nothing.
+-- at 0, at half a turn and at both ends.
 use mathlib.Core.Path.{_≡_, ap}
 use mathlib.Core.Logic.{⊎-elim}
 use Prim.Native.Nat.{ℕ, _+_, _*_, _-_, _/_, _≤_, _<_}

@@ -1,4 +1,4 @@
--- Where a group's words stand: its columns and those of its halves' outputs lie within the table. Assumes nothing.
+-- Where a group's words stand: its columns and those of its halves' outputs lie within the table.
 use mathlib.Core.Path.{_≡_, refl, sym, ap, _∙_, fun-ext}
 use mathlib.Core.List.{List}
 use Prim.Native.Nat.{ℕ, zero, suc, _+_, _*_, _-_, _/_, _≤_, _<_}

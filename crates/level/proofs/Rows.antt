@@ -1,4 +1,4 @@
--- The row of parameters of a split group, by the formulas. Assumes nothing.
+-- The row of parameters of a split group, by the formulas.
 use mathlib.Core.Path.{_≡_, refl}
 use Prim.Native.Nat.{ℕ, zero, suc, _≤_}
 use native.Mathlib.Omega.{arith}

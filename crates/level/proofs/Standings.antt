@@ -1,4 +1,4 @@
--- The a and b of a split group after a beat, put together from the step that was taken. Assumes nothing.
+-- The a and b of a split group after a beat, put together from the step that was taken.
 use mathlib.Core.Path.{_≡_}
 use Prim.Native.Nat.{ℕ, _≤_}
 use native.Mathlib.Omega.{arith}

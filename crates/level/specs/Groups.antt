@@ -1,4 +1,4 @@
--- A group's place in a table of records, and what is heard there. Assumes nothing.
+-- A group's place in a table of records, and what is heard there.
 use mathlib.Core.List.{List}
 use Prim.Native.Nat.{ℕ, _+_, _*_, _≤_, _<_}
 use Rattle.rules.specs.Parameters.{mostBroken, mostModulus, recordWords}

@@ -1,4 +1,4 @@
--- The level's struct, by the rules: as read from its words, after a vote, after the beat, as words. Assumes nothing.
+-- The level's struct, by the rules: as read from its words, after a vote, after the beat, as words.
 use mathlib.Core.List.{List, [], _∷_}
 use Prim.Native.Nat.{ℕ}
 use Rattle.rules.specs.declared.Vote.{Vote}

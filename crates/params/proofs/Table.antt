@@ -1,4 +1,4 @@
--- A table that a rule makes, entry after entry: the rule holds at each of its entries. Assumes nothing.
+-- A table that a rule makes, entry after entry: the rule holds at each of its entries.
 use mathlib.Core.Path.{_≡_, ap, _∙_, sym}
 use mathlib.Core.List.{List, [], _∷_}
 use Prim.Native.Nat.{ℕ, zero, suc, _+_, _<_}

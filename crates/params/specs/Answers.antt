@@ -1,4 +1,4 @@
--- The answer's struct, by the rules' own row of parameters. Assumes nothing.
+-- The answer's struct, by the rules' own row of parameters.
 use Prim.Native.Nat.{ℕ}
 use Rattle.rules.specs.Calls.{Parameters, rowOf, paramsAnswer}
 use Rattle.rules.specs.Refusals.{paramsRefusal}

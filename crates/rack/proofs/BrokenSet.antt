@@ -1,4 +1,4 @@
--- Laws of the broken set. Assumes nothing.
+-- Laws of the broken set.
 use mathlib.Core.Path.{_≡_}
 use mathlib.Core.Logic.{⊎-elim}
 use mathlib.Core.Bool.{true, false}

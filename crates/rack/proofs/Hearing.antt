@@ -1,4 +1,4 @@
--- The table of a receiver: sound cards as held, broken cards as they send to it. Assumes nothing.
+-- The table of a receiver: sound cards as held, broken cards as they send to it.
 use mathlib.Core.Path.{_≡_, sym, ap, _∙_}
 use mathlib.Core.Logic.{⊎-elim}
 use mathlib.Core.Bool.{true, false}

@@ -1,4 +1,4 @@
--- The record of a card after the beat, from what the card holds or hears. Assumes nothing.
+-- The record of a card after the beat, from what the card holds or hears.
 use mathlib.Core.Path.{_≡_}
 use mathlib.Core.Bool.{true, false}
 use mathlib.Core.List.{List}

@@ -1,4 +1,4 @@
--- What a beat runs on, and what the table of a receiver holds. Assumes nothing.
+-- What a beat runs on, and what the table of a receiver holds.
 use mathlib.Core.Path.{_≡_}
 use mathlib.Core.Bool.{true, false}
 use mathlib.Core.List.{List}

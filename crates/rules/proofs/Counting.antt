@@ -1,4 +1,4 @@
--- Laws of counting the cards below n that pass a test, and of the smallest number that passes one. Assumes nothing.
+-- Laws of counting the cards below n that pass a test, and of the smallest number that passes one.
 use mathlib.Core.Path.{_≡_, refl, sym, ap, _∙_}
 use mathlib.Core.Logic.{_⊎_, inl, inr, ⊎-elim}
 use mathlib.Core.Bool.{Bool, true, false, cond, _&&_, not}

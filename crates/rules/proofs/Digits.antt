@@ -1,4 +1,4 @@
--- Laws of the number of binary digits of f, and so of a record's size. Assumes nothing.
+-- Laws of the number of binary digits of f, and so of a record's size.
 use mathlib.Core.Path.{_≡_, refl, sym, ap}
 use Prim.Native.Nat.{ℕ, zero, suc, _+_, _*_, _-_, _/_, _≤_, _<_}
 use native.Mathlib.Omega.{arith}

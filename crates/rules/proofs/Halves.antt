@@ -1,4 +1,4 @@
--- The two halves of a split group: their cards, their f, their moduli and their words. Assumes nothing.
+-- The two halves of a split group: their cards, their f, their moduli and their words.
 use mathlib.Core.Path.{_≡_}
 use mathlib.Core.Logic.{⊎-elim}
 use Prim.Native.Nat.{ℕ, zero, suc, _+_, _*_, _-_, _/_, _≤_, _<_}

@@ -1,4 +1,4 @@
--- A card's next words depend only on its own words and on the carried words of the others. Assumes nothing.
+-- A card's next words depend only on its own words and on the carried words of the others.
 use mathlib.Core.Path.{_≡_, refl, sym, ap₂, fun-ext, _∙_}
 use mathlib.Core.Logic.{⊎-elim}
 use mathlib.Core.Bool.{true, false}

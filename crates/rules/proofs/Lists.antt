@@ -1,4 +1,4 @@
--- Laws of lists by their places: rows one after the other, numbers by a rule, padding. Assumes nothing.
+-- Laws of lists by their places: rows one after the other, numbers by a rule, padding.
 use mathlib.Core.Path.{_≡_, refl, sym, ap, _∙_}
 use mathlib.Core.Logic.{⊎-elim}
 use mathlib.Core.List.{List, [], _∷_, _++_}

@@ -1,4 +1,4 @@
--- How long a group's words and a card's record are. Assumes nothing.
+-- How long a group's words and a card's record are.
 use mathlib.Core.Path.{_≡_}
 use mathlib.Core.Logic.{⊎-elim}
 use mathlib.Core.Bool.{true, false}

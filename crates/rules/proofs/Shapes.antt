@@ -1,4 +1,4 @@
--- What is known of n, f and c where they are not refused. Assumes nothing.
+-- What is known of n, f and c where they are not refused.
 use mathlib.Core.Path.{_≡_, refl}
 use mathlib.Core.Bool.{Bool, true, false, _||_}
 use Prim.Native.Nat.{ℕ, _*_, _^_, _≤_, _<_}

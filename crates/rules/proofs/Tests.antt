@@ -1,4 +1,4 @@
--- Laws of tests: a test is true or false, and what `&&` and `||` say. Assumes nothing.
+-- Laws of tests: a test is true or false, and what `&&` and `||` say.
 use mathlib.Core.Path.{_≡_, refl}
 use mathlib.Core.Logic.{_⊎_, inl, inr, ⊎-elim}
 use mathlib.Core.Bool.{Bool, true, false, _&&_}

@@ -1,5 +1,4 @@
 -- Laws of votes: when two are the same, how a word is read as one and written back, how many cards are enough.
--- Assumes nothing.
 use mathlib.Core.Path.{_≡_, refl, ap}
 use mathlib.Core.Logic.{⊎-elim}
 use mathlib.Core.Bool.{Bool, true, false}

@@ -1,5 +1,5 @@
 -- Document 01, "Numbers to check by hand", the starred ones, and the whole case of "Run files and the run program",
--- computed. Assumes nothing.
+-- computed.
 use Prim.Native.Nat.{ℕ}
 use mathlib.Core.Path.{_≡_, refl}
 use mathlib.Core.Bool.{Bool, true, false}

@@ -1,5 +1,5 @@
 -- What each call answers, and what it leaves in the caller's buffer: "a refused call's value is 0 and the output buffer
--- keeps its contents". Assumes nothing.
+-- keeps its contents".
 use Prim.Native.Nat.{ℕ, zero, suc, _+_, _*_}
 use mathlib.Core.Bool.{cond}
 use mathlib.Core.List.{List}

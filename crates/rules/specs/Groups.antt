@@ -1,4 +1,4 @@
--- Document 01, "Groups within groups": halves, what a record holds, how each word is read. Assumes nothing.
+-- Document 01, "Groups within groups": halves, what a record holds, how each word is read.
 use Prim.Native.Nat.{ℕ, zero, suc, _+_, _*_, _-_, _/_, min}
 use mathlib.Core.Bool.{Bool, false, cond, _||_}
 use mathlib.Core.List.{List}

@@ -1,4 +1,4 @@
--- Document 01, "Lag". Assumes nothing.
+-- Document 01, "Lag".
 use Prim.Native.Nat.{ℕ, _+_, _*_, _-_}
 use mathlib.Core.Bool.{cond}
 use lib.Dec.{leb}

@@ -1,4 +1,4 @@
--- Document 01, "One beat of one card". "Everything on the right is from before the beat." Assumes nothing.
+-- Document 01, "One beat of one card". "Everything on the right is from before the beat."
 use Prim.Native.Nat.{ℕ, zero, suc, _+_, _*_, _-_, _/_, _%_, _^_}
 use mathlib.Core.Bool.{Bool, true, false, cond}
 use mathlib.Core.List.{List, [], _∷_, _++_}

@@ -1,4 +1,4 @@
--- Document 01, "Parameters". Assumes nothing.
+-- Document 01, "Parameters".
 use Prim.Native.Nat.{ℕ, zero, suc, _+_, _*_, _/_}
 use mathlib.Core.Bool.{Bool, _||_}
 use lib.Dec.{eqb, ltb, leb}

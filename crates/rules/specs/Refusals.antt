@@ -1,5 +1,5 @@
 -- Document 01, "Numbers for what is turned away": "Tested in this order where they apply." Each call "tests what concerns
--- its own inputs and nothing else". Lengths are in words, in bytes where the name says so. Assumes nothing.
+-- its own inputs and nothing else". Lengths are in words, in bytes where the name says so.
 use Prim.Native.Nat.{ℕ, _*_}
 use mathlib.Core.Bool.{Bool, cond, not, _||_}
 use mathlib.Core.List.{List}

@@ -1,4 +1,4 @@
--- Document 01, "Run files and the run program". Assumes nothing.
+-- Document 01, "Run files and the run program".
 use Prim.Native.Nat.{ℕ, suc, _+_, _*_}
 use mathlib.Core.Bool.{Bool, cond, not, _&&_}
 use mathlib.Core.List.{List, [], _∷_, _++_}

@@ -1,4 +1,4 @@
--- Document 01, "Whole beat". Assumes nothing.
+-- Document 01, "Whole beat".
 use Prim.Native.Nat.{ℕ, _+_, _*_, _/_, _%_, _^_}
 use mathlib.Core.Bool.{Bool, cond, _||_}
 use mathlib.Core.List.{List}

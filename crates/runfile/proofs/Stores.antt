@@ -1,4 +1,4 @@
--- Laws of what is copied into the caller's buffers. Assumes nothing.
+-- Laws of what is copied into the caller's buffers.
 use mathlib.Core.Path.{_≡_}
 use mathlib.Core.List.{List, [], _∷_}
 use Prim.Native.Nat.{ℕ, _+_, _≤_, _<_}

@@ -1,4 +1,4 @@
--- What a line does to the buffers, refused or accepted. Assumes nothing.
+-- What a line does to the buffers, refused or accepted.
 use mathlib.Core.Path.{_≡_, refl, _∙_}
 use mathlib.Core.Logic.{⊎-elim}
 use mathlib.Core.Bool.{true, false}

@@ -1,4 +1,4 @@
--- A run as it is kept, in a struct and in the caller's table, by the rules' own runs. Assumes nothing.
+-- A run as it is kept, in a struct and in the caller's table, by the rules' own runs.
 use Prim.Native.Nat.{ℕ}
 use mathlib.Core.Path.{_≡_}
 use mathlib.Core.List.{List, []}

@@ -1,4 +1,4 @@
--- What a sound card of a split group holds after a beat, as it is read: what the definitions of one beat give. Assumes nothing.
+-- What a sound card of a split group holds after a beat, as it is read: what the definitions of one beat give.
 use mathlib.Core.Path.{_≡_, refl, ap, _∙_, fun-ext}
 use mathlib.Core.Bool.{Bool, true, false, cond}
 use mathlib.Core.List.{List, _++_}

@@ -1,4 +1,4 @@
--- A half of a run is a run: its cards from the half's first on, their words behind the group's eight. Assumes nothing.
+-- A half of a run is a run: its cards from the half's first on, their words behind the group's eight.
 use mathlib.Core.Bool.{Bool}
 use Prim.Native.Nat.{ℕ, _+_, _-_, _≤_, _<_}
 use native.Mathlib.Nat.{add-sub-cancel-left}

@@ -1,4 +1,4 @@
--- Until when a group has settled, by its halves; and that one half has at most its own f broken. Assumes nothing.
+-- Until when a group has settled, by its halves; and that one half has at most its own f broken.
 use mathlib.Core.Path.{_≡_, refl, sym}
 use mathlib.Core.Logic.{⊎-elim}
 use mathlib.Core.Bool.{Bool, not}

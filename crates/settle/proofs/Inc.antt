@@ -1,4 +1,4 @@
--- Counting modulo m one beat at a time: one more, many more, and where a counter comes to. Assumes nothing.
+-- Counting modulo m one beat at a time: one more, many more, and where a counter comes to.
 use mathlib.Core.Path.{_≡_, sym}
 use mathlib.Core.Logic.{⊎-elim}
 use mathlib.Core.Bool.{cond}

@@ -1,4 +1,4 @@
--- The phase king: one sound king's three steps make the sound cards agree, and agreement stays. Assumes nothing.
+-- The phase king: one sound king's three steps make the sound cards agree, and agreement stays.
 use mathlib.Core.Path.{_≡_, refl}
 use mathlib.Core.Bool.{Bool, true, false, cond}
 use Prim.Native.Nat.{ℕ, _+_, _*_, _/_, _%_, _≤_, _<_}

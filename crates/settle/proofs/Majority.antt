@@ -1,4 +1,4 @@
--- What a vote and a most frequent value come to where the sound cards say one thing. Assumes nothing.
+-- What a vote and a most frequent value come to where the sound cards say one thing.
 use mathlib.Core.Path.{_≡_, refl}
 use mathlib.Core.Bool.{Bool, true}
 use mathlib.Core.Logic.{⊎-elim}

@@ -1,5 +1,5 @@
 -- The pointers of a split group: where both halves point to the settled half, all sound cards have its counter for their
--- phase, and a sound king has a whole turn there. Assumes nothing.
+-- phase, and a sound king has a whole turn there.
 use mathlib.Core.Path.{_≡_, refl, _∙_}
 use mathlib.Core.Logic.{_⊎_, inl, inr, ⊎-elim}
 use mathlib.Core.Bool.{Bool, true, false, cond}

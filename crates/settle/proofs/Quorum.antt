@@ -1,4 +1,4 @@
--- Quorums: two listeners that each hear n-f cards say one thing hear the same thing. Assumes nothing.
+-- Quorums: two listeners that each hear n-f cards say one thing hear the same thing.
 use mathlib.Core.Path.{_≡_}
 use mathlib.Core.Bool.{Bool, true, _&&_}
 use Prim.Native.Nat.{ℕ, _+_, _≤_, _<_}

@@ -1,5 +1,4 @@
 -- How the sound cards of a split group read a half, and that a settled half is seen and trusted: m, then M, then w = 0.
--- Assumes nothing.
 use mathlib.Core.Path.{_≡_, ap, _∙_}
 use mathlib.Core.Logic.{_⊎_, inl, inr, ⊎-elim}
 use mathlib.Core.Bool.{Bool, true}

@@ -1,5 +1,5 @@
 -- Every group settles at T(f): a leaf after one beat, a split group by the half that has settled. And a group that has
--- agreed stays so. Assumes nothing.
+-- agreed stays so.
 use mathlib.Core.Path.{_≡_, refl}
 use mathlib.Core.Logic.{⊎-elim}
 use mathlib.Core.Bool.{Bool, true, false, not}

@@ -1,4 +1,4 @@
--- Cards that show one common count, one more each beat: what settled means, and what it gives. Assumes nothing.
+-- Cards that show one common count, one more each beat: what settled means, and what it gives.
 use mathlib.Core.Path.{_≡_}
 use mathlib.Core.Bool.{Bool, true}
 use Prim.Native.Nat.{ℕ, _+_, _%_, _≤_, _<_}

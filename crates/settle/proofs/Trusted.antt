@@ -1,5 +1,5 @@
 -- Reading a half's counter: a vote that counts on is trusted in the end, and what is trusted anywhere in a window is one
--- counter, whether the half is as it should be or not. Assumes nothing.
+-- counter, whether the half is as it should be or not.
 use mathlib.Core.Path.{_≡_, refl, sym, ap, _∙_}
 use mathlib.Core.Logic.{⊎-elim}
 use mathlib.Core.Bool.{Bool, true, false, cond, _&&_}

@@ -1,4 +1,4 @@
--- A turn: in t beats of a phase that counts modulo t some sound king has its three steps in one piece. Assumes nothing.
+-- A turn: in t beats of a phase that counts modulo t some sound king has its three steps in one piece.
 use mathlib.Core.Path.{_≡_}
 use mathlib.Core.Logic.{_⊎_, ⊎-elim}
 use mathlib.Core.Bool.{Bool, true, not}

@@ -1,4 +1,4 @@
--- Accepted whole beats, one after the other, are a run: so what is proved of runs holds of them. Assumes nothing.
+-- Accepted whole beats, one after the other, are a run: so what is proved of runs holds of them.
 use mathlib.Core.Path.{_≡_, refl, sym, _∙_}
 use mathlib.Core.Bool.{Bool, true, false, not}
 use mathlib.Core.List.{List}

@@ -1,4 +1,4 @@
--- The window: in 9t beats of counters modulo 2t and 6t lie t on which both point to one half. Assumes nothing.
+-- The window: in 9t beats of counters modulo 2t and 6t lie t on which both point to one half.
 use mathlib.Core.Path.{_≡_}
 use Prim.Native.Nat.{ℕ, _+_, _*_, _-_, _≤_, _<_}
 use native.Mathlib.Omega.{arith}

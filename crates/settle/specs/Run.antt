@@ -1,4 +1,4 @@
--- The run of a group: what its cards hold and hear, beat after beat. Assumes nothing.
+-- The run of a group: what its cards hold and hear, beat after beat.
 use mathlib.Core.Path.{_≡_}
 use mathlib.Core.Bool.{Bool, true, not}
 use mathlib.Core.List.{List}

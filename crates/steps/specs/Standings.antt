@@ -1,4 +1,4 @@
--- The two words that the three steps change, as the rules have them. Assumes nothing.
+-- The two words that the three steps change, as the rules have them.
 use Rattle.rules.specs.OneBeat.{Standing}
 use Rattle.steps.specs.declared.Stand.{Stand}
 

@@ -1,5 +1,4 @@
 -- One card's step on bytes that is not refused: what is known of its inputs, and that it is the step on their words.
--- Assumes nothing.
 use mathlib.Core.Path.{_≡_, refl, ap, _∙_, fun-ext}
 use mathlib.Core.Logic.{⊎-elim}
 use mathlib.Core.List.{List}

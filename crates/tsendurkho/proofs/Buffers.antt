@@ -1,5 +1,5 @@
 -- The buffers of words that a step on bytes works with, cut from arrays of zeros: as long as the records and the output need,
--- and the step on them is not refused either. Assumes nothing.
+-- and the step on them is not refused either.
 use mathlib.Core.Path.{_≡_, refl, ap, _∙_}
 use mathlib.Core.List.{List, _∷_}
 use Prim.Native.Nat.{ℕ, zero, suc, _*_, _/_, _≤_}

@@ -1,4 +1,4 @@
--- A list that is filled from the front, one number after the other. Assumes nothing.
+-- A list that is filled from the front, one number after the other.
 use mathlib.Core.Path.{_≡_, refl, sym, ap, _∙_}
 use mathlib.Core.List.{List, [], _∷_, _++_, append-nil, append-assoc}
 use Prim.Native.Nat.{ℕ, suc, _+_, _*_, _<_}

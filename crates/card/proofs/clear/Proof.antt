@@ -1,4 +1,4 @@
--- `card::clear` meets its contract: the words before j are 0. Assumes nothing.
+-- `card::clear` meets its contract: the words before j are 0.
 use borrow.Author.Needs.{needs}
 use borrow.Author.Count.{below-more}
 use mathlib.Core.Path.{_≡_, refl, sym, _∙_}

@@ -1,4 +1,4 @@
--- `card::put_next` meets its contract: the group of all cards writes the record over the zeros. Assumes nothing.
+-- `card::put_next` meets its contract: the group of all cards writes the record over the zeros.
 use borrow.Author.Needs.{needs}
 use mathlib.Core.Path.{_∙_}
 use Prim.Native.Nat.{suc}

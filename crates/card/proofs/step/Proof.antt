@@ -1,4 +1,4 @@
--- `card::step` meets its contract: a refused call writes nothing, another the next record. Assumes nothing.
+-- `card::step` meets its contract: a refused call writes nothing, another the next record.
 use borrow.Author.Needs.{needs}
 use borrow.Author.Tests.{ne-eqb}
 use mathlib.Core.Path.{_≡_, refl, sym, _∙_}

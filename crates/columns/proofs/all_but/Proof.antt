@@ -1,4 +1,4 @@
--- `columns::all_but` meets its contract: what is left of the cards to spare. Assumes nothing.
+-- `columns::all_but` meets its contract: what is left of the cards to spare.
 use borrow.Author.Needs.{needs}
 use borrow.Author.Tests.{not-true, not-false}
 use mathlib.Core.Path.{_≡_, refl, sym, ap, _∙_}

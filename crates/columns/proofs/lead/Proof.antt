@@ -1,4 +1,4 @@
--- `columns::lead` meets its contract. Assumes nothing.
+-- `columns::lead` meets its contract.
 use borrow.Author.Tests.{lt-ltb, le-ltb}
 use native.Mathlib.Omega.{arith}
 use Rattle.columns.specs.Columns.{leader}

@@ -1,4 +1,4 @@
--- `columns::lies` meets its contract: both ends are tested. Assumes nothing.
+-- `columns::lies` meets its contract: both ends are tested.
 use borrow.Author.Tests.{le-leb, lt-leb}
 use Rattle.columns.proofs.lies.Statement.{statement}
 use Rattle.columns.proofs.lies.Tie as tie

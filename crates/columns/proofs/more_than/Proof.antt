@@ -1,4 +1,4 @@
--- `columns::more_than` meets its contract: how many more there may be. Assumes nothing.
+-- `columns::more_than` meets its contract: how many more there may be.
 use borrow.Author.Needs.{needs}
 use mathlib.Core.Path.{_≡_, refl, sym, ap, _∙_}
 use mathlib.Core.Logic.{⊎-elim}

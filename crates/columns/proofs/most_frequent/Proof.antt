@@ -1,5 +1,4 @@
 -- `columns::most_frequent` meets its contract: the tally of the cards gone through, and the value that leads.
--- Assumes nothing.
 use borrow.Author.Needs.{needs}
 use mathlib.Core.Path.{_≡_, refl, sym, ap, _∙_}
 use mathlib.Core.Logic.{⊎-elim}

@@ -1,4 +1,4 @@
--- `columns::read_vote` meets its contract. Assumes nothing.
+-- `columns::read_vote` meets its contract.
 use mathlib.Core.Path.{sym}
 use Rattle.rules.proofs.Votes.{read-below, read-above}
 use Rattle.columns.proofs.read_vote.Statement.{statement}

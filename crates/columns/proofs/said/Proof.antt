@@ -1,4 +1,4 @@
--- `columns::said` meets its contract: the one place where the index of a word is computed. Assumes nothing.
+-- `columns::said` meets its contract: the one place where the index of a word is computed.
 use borrow.Author.Needs.{needs}
 use Prim.Native.Nat.{ℕ, _+_, _*_, _<_}
 use native.Mathlib.Omega.{arith}

@@ -1,4 +1,4 @@
--- `columns::sent_enough` meets its contract, case by case. Assumes nothing.
+-- `columns::sent_enough` meets its contract, case by case.
 use borrow.Author.Needs.{needs}
 use mathlib.Core.Path.{_≡_, ap, _∙_}
 use Prim.Native.Nat.{ℕ}

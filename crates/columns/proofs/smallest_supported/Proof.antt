@@ -1,5 +1,5 @@
 -- `columns::smallest_supported` meets its contract: of what the cards gone through sent, nothing below the best so far
--- is supported. Assumes nothing.
+-- is supported.
 use borrow.Author.Needs.{needs}
 use mathlib.Core.Path.{_≡_, refl, sym, ap, _∙_}
 use mathlib.Core.Logic.{⊎-elim}

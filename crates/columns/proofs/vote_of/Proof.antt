@@ -1,5 +1,4 @@
 -- `columns::vote_of` meets its contract: the tally of the cards gone through, in which nothing has had enough votes.
--- Assumes nothing.
 use borrow.Author.Needs.{needs}
 use mathlib.Core.Path.{_≡_, refl, sym, ap, _∙_}
 use mathlib.Core.Logic.{⊎-elim}

@@ -1,4 +1,4 @@
--- `digits::is_digit` meets its contract. Assumes nothing.
+-- `digits::is_digit` meets its contract.
 use borrow.Author.Needs.{needs}
 use mathlib.Core.Path.{sym, _∙_}
 use Rattle.rules.specs.Text.{isDigit}

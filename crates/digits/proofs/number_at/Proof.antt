@@ -1,4 +1,4 @@
--- `digits::number_at` meets its contract: eight digits fit 32 bits. Assumes nothing.
+-- `digits::number_at` meets its contract: eight digits fit 32 bits.
 use borrow.Author.Needs.{needs}
 use mathlib.Core.Path.{_≡_, refl}
 use Prim.Native.Nat.{_+_, _*_, _-_, _^_, _≤_, _<_}

@@ -1,4 +1,4 @@
--- `digits::value_of` meets its contract. Assumes nothing.
+-- `digits::value_of` meets its contract.
 use borrow.Author.Needs.{needs}
 use borrow.Author.Tests.{le-leb, lt-leb}
 use mathlib.Core.Logic.{⊎-elim}

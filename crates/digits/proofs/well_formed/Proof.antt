@@ -1,4 +1,4 @@
--- `digits::well_formed` meets its contract: what is left to look at decides. Assumes nothing.
+-- `digits::well_formed` meets its contract: what is left to look at decides.
 use borrow.Author.Needs.{needs}
 use borrow.Author.Tests.{eq-eqb, ne-eqb, not-true, not-false}
 use mathlib.Core.Path.{_≡_, refl, sym, _∙_}

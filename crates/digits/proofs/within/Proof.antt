@@ -1,4 +1,4 @@
--- `digits::within` meets its contract. Assumes nothing.
+-- `digits::within` meets its contract.
 use borrow.Author.Tests.{le-leb, lt-leb}
 use Rattle.digits.proofs.within.Statement.{statement}
 use Rattle.digits.proofs.within.Tie as tie

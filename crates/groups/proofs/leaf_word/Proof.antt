@@ -1,4 +1,4 @@
--- `groups::leaf_word` meets its contract. Assumes nothing.
+-- `groups::leaf_word` meets its contract.
 use borrow.Author.Needs.{needs}
 use Prim.Native.Nat.{_+_}
 use native.Mathlib.Nat.{mod-lt}

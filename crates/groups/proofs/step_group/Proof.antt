@@ -1,4 +1,4 @@
--- `groups::step_group` meets its contract. Assumes nothing.
+-- `groups::step_group` meets its contract.
 use native.Mathlib.Omega.{arith}
 use Rattle.groups.proofs.step_group.Statement.{statement}
 use Rattle.groups.proofs.step_group.Tie as tie

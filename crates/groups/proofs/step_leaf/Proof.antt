@@ -1,4 +1,4 @@
--- `groups::step_leaf` meets its contract. Assumes nothing.
+-- `groups::step_leaf` meets its contract.
 use borrow.Author.Needs.{needs}
 use Rattle.level.specs.Groups.{heardBy}
 use Rattle.groups.proofs.Words.{leaf-is}

@@ -1,4 +1,4 @@
--- `lag::lag_refusal` meets its contract: each return rewrites with the tests that led there. Assumes nothing.
+-- `lag::lag_refusal` meets its contract: each return rewrites with the tests that led there.
 use borrow.Author.Needs.{needs}
 use borrow.Author.Tests.{le-leb, lt-leb}
 use mathlib.Core.Path.{_≡_, sym, _∙_}

@@ -1,4 +1,4 @@
--- `lag::turn_ahead` meets its contract. Assumes nothing.
+-- `lag::turn_ahead` meets its contract.
 use borrow.Author.Needs.{needs}
 use borrow.Author.Tests.{le-leb, lt-leb}
 use native.Mathlib.Omega.{arith}

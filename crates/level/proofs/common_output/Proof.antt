@@ -1,4 +1,4 @@
--- `level::common_output` meets its contract. Assumes nothing.
+-- `level::common_output` meets its contract.
 use borrow.Author.Needs.{needs}
 use native.Mathlib.Omega.{arith}
 use Rattle.level.proofs.Places.{outputs-within}

@@ -1,4 +1,4 @@
--- `level::next_level` meets its contract. Assumes nothing.
+-- `level::next_level` meets its contract.
 use borrow.Author.Needs.{needs}
 use mathlib.Core.Path.{ap, _∙_}
 use native.Mathlib.Omega.{arith}

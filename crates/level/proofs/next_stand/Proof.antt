@@ -1,4 +1,4 @@
--- `level::next_stand` meets its contract. Assumes nothing.
+-- `level::next_stand` meets its contract.
 use borrow.Author.Needs.{needs}
 use native.Mathlib.Omega.{arith}
 use Prim.Native.Nat.{_/_, _<_}

@@ -1,4 +1,4 @@
--- `level::next_vote` meets its contract. Assumes nothing.
+-- `level::next_vote` meets its contract.
 use borrow.Author.Needs.{needs}
 use mathlib.Core.Path.{_≡_}
 use Prim.Native.Nat.{ℕ, zero, suc, _≤_}

@@ -1,4 +1,4 @@
--- `level::put_level` meets its contract: eight stores, one after the other. Assumes nothing.
+-- `level::put_level` meets its contract: eight stores, one after the other.
 use borrow.Author.Needs.{needs}
 use native.Mathlib.Numerals.{unary-clauses}
 use native.Mathlib.Omega.{arith}

@@ -1,4 +1,4 @@
--- `level::read_level` meets its contract. Assumes nothing.
+-- `level::read_level` meets its contract.
 use borrow.Author.Needs.{needs}
 use native.Mathlib.Omega.{arith}
 use borrow.Author.Tests.{ne-eqb}

@@ -1,4 +1,4 @@
--- `level::wait_after` meets its contract, case by case. Assumes nothing.
+-- `level::wait_after` meets its contract, case by case.
 use borrow.Author.Needs.{needs}
 use borrow.Author.Tests.{eq-eqb, ne-eqb}
 use mathlib.Core.Path.{_≡_, refl, sym}

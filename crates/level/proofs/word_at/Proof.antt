@@ -1,4 +1,4 @@
--- `level::word_at` meets its contract. Assumes nothing.
+-- `level::word_at` meets its contract.
 use native.Mathlib.Omega.{arith}
 use Rattle.level.proofs.Places.{split-place, column-within}
 use Rattle.level.proofs.word_at.Statement.{statement}

@@ -1,4 +1,4 @@
--- `level::word_of` meets its contract, case by case. Assumes nothing.
+-- `level::word_of` meets its contract, case by case.
 use borrow.Author.Needs.{needs}
 use Rattle.rules.specs.Groups.{wordOf}
 use Rattle.level.proofs.word_of.Statement.{statement}

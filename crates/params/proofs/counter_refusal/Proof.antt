@@ -1,4 +1,4 @@
--- `params::counter_refusal` meets its contract: each return rewrites with the tests that led there. Assumes nothing.
+-- `params::counter_refusal` meets its contract: each return rewrites with the tests that led there.
 use borrow.Author.Needs.{needs}
 use mathlib.Core.Path.{_≡_, sym, _∙_}
 use Prim.Native.Nat.{ℕ}

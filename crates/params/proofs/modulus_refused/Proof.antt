@@ -1,4 +1,4 @@
--- `params::modulus_refused` meets its contract. Assumes nothing.
+-- `params::modulus_refused` meets its contract.
 use borrow.Author.Tests.{lt-ltb, le-ltb}
 use Rattle.params.proofs.modulus_refused.Statement.{statement}
 use Rattle.params.proofs.modulus_refused.Tie as tie

@@ -1,5 +1,4 @@
 -- `params::record_words` meets its contract: the leading zeros of a number below 2 ^ k and its binary digits make k.
--- Assumes nothing.
 use borrow.Author.Needs.{needs}
 use mathlib.Core.Path.{_≡_, refl, ap, _∙_}
 use Prim.Native.Nat.{ℕ, zero, suc, _+_, _^_, _/_, _≤_, _<_}

@@ -1,4 +1,4 @@
--- `params::row_of` meets its contract: the whole table is computed from the formulas, in one test. Assumes nothing.
+-- `params::row_of` meets its contract: the whole table is computed from the formulas, in one test.
 use borrow.Author.Needs.{needs}
 use mathlib.Core.Path.{ap}
 use mathlib.Core.List.{List, [], _∷_}

@@ -1,4 +1,4 @@
--- `params::shape_refusal` meets its contract: each return rewrites with the tests that led there. Assumes nothing.
+-- `params::shape_refusal` meets its contract: each return rewrites with the tests that led there.
 use borrow.Author.Needs.{needs}
 use borrow.Author.Tests.{eq-eqb, ne-eqb, lt-ltb, le-ltb, le-leb, lt-leb}
 use Rattle.params.proofs.shape_refusal.Statement.{statement}

@@ -1,4 +1,4 @@
--- `rack::beat` meets its contract: a refused call writes nothing, another the records after the beat. Assumes nothing.
+-- `rack::beat` meets its contract: a refused call writes nothing, another the records after the beat.
 use borrow.Author.Needs.{needs}
 use borrow.Author.Tests.{eq-eqb, ne-eqb}
 use mathlib.Core.Path.{_≡_, refl, sym, _∙_}

@@ -1,4 +1,4 @@
--- `rack::copy_words` meets its contract: the words passed are written. Assumes nothing.
+-- `rack::copy_words` meets its contract: the words passed are written.
 use mathlib.Core.Path.{_≡_, refl}
 use Prim.Native.Nat.{_-_, _≤_}
 use native.Mathlib.Omega.{arith}

@@ -1,4 +1,4 @@
--- `rack::hear` meets its contract: the broken cards gone through are heard as they send. Assumes nothing.
+-- `rack::hear` meets its contract: the broken cards gone through are heard as they send.
 use borrow.Author.Needs.{needs}
 use mathlib.Core.Path.{_≡_, refl, sym, ap, _∙_}
 use mathlib.Core.Logic.{⊎-elim}

@@ -1,4 +1,4 @@
--- `rack::put_record` meets its contract: a broken card's record is copied, a sound card's is its step's. Assumes nothing.
+-- `rack::put_record` meets its contract: a broken card's record is copied, a sound card's is its step's.
 use borrow.Author.Needs.{needs}
 use mathlib.Core.Path.{_≡_, sym, ap, _∙_}
 use Prim.Native.Nat.{_*_}

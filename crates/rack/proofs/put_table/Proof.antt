@@ -1,4 +1,4 @@
--- `rack::put_table` meets its contract: the records of the cards gone through are written. Assumes nothing.
+-- `rack::put_table` meets its contract: the records of the cards gone through are written.
 use mathlib.Core.Path.{_≡_, refl, sym, _∙_}
 use Prim.Native.Nat.{_+_, _*_, _-_, _≤_}
 use native.Mathlib.Nat.{zero-mul}

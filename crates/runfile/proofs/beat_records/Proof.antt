@@ -1,4 +1,4 @@
--- `runfile::beat_records` meets its contract: the whole beat is not refused, and its table is copied. Assumes nothing.
+-- `runfile::beat_records` meets its contract: the whole beat is not refused, and its table is copied.
 use borrow.Author.Needs.{needs}
 use mathlib.Core.Path.{_≡_, sym, ap, _∙_}
 use mathlib.Core.List.{_++_}

@@ -1,4 +1,4 @@
--- `runfile::copy_words` meets its contract: the table holds the words passed. Assumes nothing.
+-- `runfile::copy_words` meets its contract: the table holds the words passed.
 use borrow.Author.Needs.{needs}
 use mathlib.Core.Path.{_≡_, refl}
 use Prim.Native.Nat.{_-_, _≤_}

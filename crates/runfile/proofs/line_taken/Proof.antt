@@ -1,4 +1,4 @@
--- `runfile::line_taken` meets its contract, case by case. Assumes nothing.
+-- `runfile::line_taken` meets its contract, case by case.
 use borrow.Author.Needs.{needs}
 use mathlib.Core.Path.{_≡_, sym, _∙_}
 use Rattle.runfile.specs.declared.Run.the-variants.{AtHeader, AtStart, AtBeat}

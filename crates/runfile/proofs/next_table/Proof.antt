@@ -1,4 +1,4 @@
--- `runfile::next_table` meets its contract. Assumes nothing.
+-- `runfile::next_table` meets its contract.
 use borrow.Author.Needs.{needs}
 use mathlib.Core.Path.{_≡_, sym, _∙_}
 use Prim.Native.Nat.{_≤_}

@@ -1,4 +1,4 @@
--- `runfile::run_tests` meets its contract, case by case. Assumes nothing.
+-- `runfile::run_tests` meets its contract, case by case.
 use borrow.Author.Needs.{needs}
 use Rattle.runfile.specs.Runs.{keptTests}
 use Rattle.runfile.proofs.run_tests.Statement.{statement}

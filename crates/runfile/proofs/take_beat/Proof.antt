@@ -1,4 +1,4 @@
--- `runfile::take_beat` meets its contract. Assumes nothing.
+-- `runfile::take_beat` meets its contract.
 use borrow.Author.Needs.{needs}
 use mathlib.Core.Path.{_≡_, sym, ap, _∙_}
 use mathlib.Core.Bool.{true}

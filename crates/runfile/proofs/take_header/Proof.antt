@@ -1,4 +1,4 @@
--- `runfile::take_header` meets its contract. Assumes nothing.
+-- `runfile::take_header` meets its contract.
 use borrow.Author.Needs.{needs}
 use borrow.Author.Tests.{eq-eqb, ne-eqb, not-false}
 use mathlib.Core.Path.{sym, _∙_}

@@ -1,4 +1,4 @@
--- `runfile::take_line` meets its contract. Assumes nothing.
+-- `runfile::take_line` meets its contract.
 use borrow.Author.Needs.{needs}
 use Rattle.runfile.proofs.take_line.Statement.{statement}
 use Rattle.runfile.proofs.take_line.Tie as tie

@@ -1,4 +1,4 @@
--- `runfile::take_start` meets its contract. Assumes nothing.
+-- `runfile::take_start` meets its contract.
 use borrow.Author.Needs.{needs}
 use mathlib.Core.Path.{_≡_, sym, ap, _∙_}
 use Prim.Native.Nat.{_≤_}

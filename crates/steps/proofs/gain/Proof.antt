@@ -1,4 +1,4 @@
--- `steps::gain` meets its contract, case by case. Assumes nothing.
+-- `steps::gain` meets its contract, case by case.
 use borrow.Author.Needs.{needs}
 use Prim.Native.Nat.{_+_, _%_}
 use native.Mathlib.Nat.{mod-lt}

@@ -1,4 +1,4 @@
--- `steps::obey` meets its contract, case by case. Assumes nothing.
+-- `steps::obey` meets its contract, case by case.
 use borrow.Author.Needs.{needs}
 use mathlib.Core.Path.{_≡_, refl, sym}
 use mathlib.Core.Bool.{Bool, true, false}

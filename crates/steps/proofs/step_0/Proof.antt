@@ -1,4 +1,4 @@
--- `steps::step_0` meets its contract. Assumes nothing.
+-- `steps::step_0` meets its contract.
 use borrow.Author.Needs.{needs}
 use mathlib.Core.Path.{sym, _∙_}
 use Rattle.rules.specs.OneBeat.{step0}

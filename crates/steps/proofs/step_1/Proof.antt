@@ -1,4 +1,4 @@
--- `steps::step_1` meets its contract. Assumes nothing.
+-- `steps::step_1` meets its contract.
 use borrow.Author.Needs.{needs}
 use Rattle.rules.specs.OneBeat.{step1}
 use Rattle.steps.proofs.step_1.Statement.{statement}

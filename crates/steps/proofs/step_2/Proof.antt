@@ -1,4 +1,4 @@
--- `steps::step_2` meets its contract. Assumes nothing.
+-- `steps::step_2` meets its contract.
 use borrow.Author.Needs.{needs}
 use Rattle.rules.specs.OneBeat.{step2}
 use Rattle.steps.proofs.step_2.Statement.{statement}

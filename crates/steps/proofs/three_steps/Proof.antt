@@ -1,4 +1,4 @@
--- `steps::three_steps` meets its contract. Assumes nothing.
+-- `steps::three_steps` meets its contract.
 use borrow.Author.Needs.{needs}
 use borrow.Author.Tests.{eq-eqb, ne-eqb}
 use mathlib.Core.Path.{_∙_}

@@ -1,4 +1,4 @@
--- `tsendurkho::step_few` meets its contract: the table of a small rack has 64 words at most. Assumes nothing.
+-- `tsendurkho::step_few` meets its contract: the table of a small rack has 64 words at most.
 use borrow.Author.Needs.{needs}
 use mathlib.Core.Path.{_∙_}
 use native.Mathlib.Omega.{arith}

@@ -1,4 +1,4 @@
--- `tsendurkho::step_many` meets its contract: no table has more than 400 words. Assumes nothing.
+-- `tsendurkho::step_many` meets its contract: no table has more than 400 words.
 use borrow.Author.Needs.{needs}
 use mathlib.Core.Path.{_∙_}
 use native.Mathlib.Omega.{arith}

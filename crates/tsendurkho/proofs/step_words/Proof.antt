@@ -1,4 +1,4 @@
--- `tsendurkho::step_words` meets its contract: what the three calls ensure, one after the other. Assumes nothing.
+-- `tsendurkho::step_words` meets its contract: what the three calls ensure, one after the other.
 use borrow.Author.Needs.{needs}
 use mathlib.Core.Path.{_≡_, _∙_}
 use native.Mathlib.Omega.{arith}

@@ -1,5 +1,4 @@
 -- `tsendurkho::tsendurkho_step` meets its contract: a refused call writes nothing, another the bytes of the next record.
--- Assumes nothing.
 use borrow.Author.Needs.{needs}
 use borrow.Author.Tests.{ne-eqb}
 use mathlib.Core.Path.{_≡_, refl, sym, _∙_}

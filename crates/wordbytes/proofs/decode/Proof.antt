@@ -1,4 +1,4 @@
--- `wordbytes::decode` meets its contract: the words passed stand in front. Assumes nothing.
+-- `wordbytes::decode` meets its contract: the words passed stand in front.
 use borrow.Author.Needs.{needs}
 use mathlib.Core.Path.{_≡_, refl, _∙_}
 use Prim.Native.Nat.{_-_, _≤_}

@@ -1,4 +1,4 @@
--- `wordbytes::encode` meets its contract: the bytes of the words passed stand in front. Assumes nothing.
+-- `wordbytes::encode` meets its contract: the bytes of the words passed stand in front.
 use borrow.Author.Needs.{needs}
 use mathlib.Core.Path.{_≡_, refl, _∙_}
 use mathlib.Core.List.{List, [], _∷_}

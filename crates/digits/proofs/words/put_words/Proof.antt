@@ -1,4 +1,4 @@
--- `digits::words::put_words` meets its contract: the buffer holds the text of the words passed. Assumes nothing.
+-- `digits::words::put_words` meets its contract: the buffer holds the text of the words passed.
 use borrow.Author.Needs.{needs}
 use mathlib.Core.Path.{_≡_, refl, _∙_}
 use mathlib.Core.List.{List}

@@ -1,4 +1,4 @@
--- `digits::words::word_at` meets its contract: four digits fit 16 bits. Assumes nothing.
+-- `digits::words::word_at` meets its contract: four digits fit 16 bits.
 use borrow.Author.Needs.{needs}
 use native.Mathlib.Omega.{arith}
 use Rattle.digits.proofs.Hexadecimal.{number-below}

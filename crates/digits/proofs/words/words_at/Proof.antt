@@ -1,4 +1,4 @@
--- `digits::words::words_at` meets its contract: the buffer holds the words passed. Assumes nothing.
+-- `digits::words::words_at` meets its contract: the buffer holds the words passed.
 use borrow.Author.Needs.{needs}
 use mathlib.Core.Path.{_≡_, refl, sym, _∙_}
 use mathlib.Core.List.{List, [], _∷_}

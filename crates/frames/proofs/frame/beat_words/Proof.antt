@@ -1,4 +1,4 @@
--- `frames::frame::beat_words` meets its contract: the products are small. Assumes nothing.
+-- `frames::frame::beat_words` meets its contract: the products are small.
 use borrow.Author.Needs.{needs}
 use Prim.Native.Nat.{_*_, _≤_}
 use native.Mathlib.Omega.{arith}

@@ -1,4 +1,4 @@
--- `frames::frame::frame_refusal` meets its contract: each return rewrites with the tests that led there. Assumes nothing.
+-- `frames::frame::frame_refusal` meets its contract: each return rewrites with the tests that led there.
 use borrow.Author.Needs.{needs}
 use borrow.Author.Tests.{eq-eqb, ne-eqb, not-false}
 use mathlib.Core.Path.{sym, _∙_}

@@ -1,4 +1,4 @@
--- `frames::frame::read_words` meets its contract. Assumes nothing.
+-- `frames::frame::read_words` meets its contract.
 use borrow.Author.Needs.{needs}
 use mathlib.Core.Path.{_≡_, sym}
 use native.Mathlib.Omega.{arith}

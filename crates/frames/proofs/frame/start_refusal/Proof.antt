@@ -1,4 +1,4 @@
--- `frames::frame::start_refusal` meets its contract. Assumes nothing.
+-- `frames::frame::start_refusal` meets its contract.
 use borrow.Author.Needs.{needs}
 use mathlib.Core.Path.{_∙_}
 use native.Mathlib.Omega.{arith}

@@ -1,4 +1,4 @@
--- `frames::frame::start_words` meets its contract: the product is small. Assumes nothing.
+-- `frames::frame::start_words` meets its contract: the product is small.
 use borrow.Author.Needs.{needs}
 use Prim.Native.Nat.{_*_, _≤_}
 use native.Mathlib.Omega.{arith}

@@ -1,4 +1,4 @@
--- `frames::header::header_of` meets its contract: a well-formed line has the digits that are read. Assumes nothing.
+-- `frames::header::header_of` meets its contract: a well-formed line has the digits that are read.
 use mathlib.Core.Path.{_≡_}
 use mathlib.Core.Bool.{true}
 use mathlib.Core.List.{List}

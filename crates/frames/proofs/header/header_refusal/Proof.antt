@@ -1,4 +1,4 @@
--- `frames::header::header_refusal` meets its contract. Assumes nothing.
+-- `frames::header::header_refusal` meets its contract.
 use borrow.Author.Needs.{needs}
 use borrow.Author.Tests.{not-false}
 use mathlib.Core.Path.{sym, _∙_}

@@ -1,4 +1,4 @@
--- `frames::header::tests_of` meets its contract: each return rewrites with the tests that led there. Assumes nothing.
+-- `frames::header::tests_of` meets its contract: each return rewrites with the tests that led there.
 use borrow.Author.Needs.{needs}
 use mathlib.Core.Path.{_≡_, sym, _∙_}
 use Rattle.rules.specs.Refusals.{given}

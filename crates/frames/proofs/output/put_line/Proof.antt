@@ -1,4 +1,4 @@
--- `frames::output::put_line` meets its contract: behind the beat stand the words of the cards passed. Assumes nothing.
+-- `frames::output::put_line` meets its contract: behind the beat stand the words of the cards passed.
 use borrow.Author.Needs.{needs}
 use mathlib.Core.Path.{_≡_, refl, _∙_}
 use Prim.Native.Nat.{_+_, _*_, _-_, _≤_}

@@ -1,4 +1,4 @@
--- `frames::output::put_refusal` meets its contract: the line is stored part by part. Assumes nothing.
+-- `frames::output::put_refusal` meets its contract: the line is stored part by part.
 use borrow.Author.Needs.{needs}
 use mathlib.Core.Path.{sym}
 use Rattle.frames.proofs.Shown.{refusal-length, refusal-stored}

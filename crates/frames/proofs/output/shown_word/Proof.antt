@@ -1,4 +1,4 @@
--- `frames::output::shown_word` meets its contract: a broken card is none, another's count is read in its record. Assumes nothing.
+-- `frames::output::shown_word` meets its contract: a broken card is none, another's count is read in its record.
 use borrow.Author.Needs.{needs}
 use mathlib.Core.Path.{_≡_, refl, sym, _∙_}
 use Prim.Native.Nat.{_+_, _*_, _-_, _≤_}

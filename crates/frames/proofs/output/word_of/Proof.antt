@@ -1,4 +1,4 @@
--- `frames::output::word_of` meets its contract, case by case. Assumes nothing.
+-- `frames::output::word_of` meets its contract, case by case.
 use borrow.Author.Needs.{needs}
 use Rattle.rules.specs.Groups.{wordOf}
 use Rattle.frames.proofs.output.word_of.Statement.{statement}

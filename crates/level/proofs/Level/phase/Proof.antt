@@ -1,4 +1,4 @@
--- `level::Level::phase` meets its contract. Assumes nothing.
+-- `level::Level::phase` meets its contract.
 use borrow.Author.Needs.{needs}
 use borrow.Author.Tests.{lt-ltb, le-ltb}
 use mathlib.Core.Path.{_≡_, _∙_}

@@ -1,4 +1,4 @@
--- `level::Level::voted_one` meets its contract. Assumes nothing.
+-- `level::Level::voted_one` meets its contract.
 use borrow.Author.Needs.{needs}
 use Rattle.level.proofs.Level.voted_one.Statement.{statement}
 use Rattle.level.proofs.Level.voted_one.Tie as tie

@@ -1,4 +1,4 @@
--- `level::Level::voted_zero` meets its contract. Assumes nothing.
+-- `level::Level::voted_zero` meets its contract.
 use borrow.Author.Needs.{needs}
 use Rattle.level.proofs.Level.voted_zero.Statement.{statement}
 use Rattle.level.proofs.Level.voted_zero.Tie as tie

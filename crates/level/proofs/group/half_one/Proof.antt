@@ -1,4 +1,4 @@
--- `level::group::half_one` meets its contract. Assumes nothing.
+-- `level::group::half_one` meets its contract.
 use borrow.Author.Needs.{needs}
 use mathlib.Core.Path.{_≡_}
 use Prim.Native.Nat.{_+_, _-_, _/_}

@@ -1,4 +1,4 @@
--- `level::group::half_zero` meets its contract. Assumes nothing.
+-- `level::group::half_zero` meets its contract.
 use borrow.Author.Needs.{needs}
 use native.Mathlib.Nat.{add-zero}
 use Rattle.level.proofs.group.half_zero.Statement.{statement}

@@ -1,4 +1,4 @@
--- `level::group::output_place` meets its contract. Assumes nothing.
+-- `level::group::output_place` meets its contract.
 use borrow.Author.Tests.{eq-eqb, ne-eqb}
 use mathlib.Core.Path.{refl}
 use native.Mathlib.Omega.{arith}

@@ -1,4 +1,4 @@
--- `rack::broken::broken_below` meets its contract: the count of the cards gone through. Assumes nothing.
+-- `rack::broken::broken_below` meets its contract: the count of the cards gone through.
 use mathlib.Core.Path.{_≡_, refl, sym, _∙_}
 use mathlib.Core.Logic.{⊎-elim}
 use Prim.Native.Nat.{_-_, _≤_}

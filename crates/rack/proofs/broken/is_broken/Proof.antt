@@ -1,4 +1,4 @@
--- `rack::broken::is_broken` meets its contract. Assumes nothing.
+-- `rack::broken::is_broken` meets its contract.
 use borrow.Author.Needs.{needs}
 use mathlib.Core.Path.{refl}
 use Rattle.rules.specs.WholeBeat.{isBroken}

@@ -1,4 +1,4 @@
--- `rack::broken::set_refused` meets its contract. Assumes nothing.
+-- `rack::broken::set_refused` meets its contract.
 use borrow.Author.Needs.{needs}
 use borrow.Author.Tests.{le-leb, lt-leb}
 use Rattle.rules.specs.WholeBeat.{badSet}

@@ -1,4 +1,4 @@
--- `steps::pointer::count_or_0` meets its contract, case by case. Assumes nothing.
+-- `steps::pointer::count_or_0` meets its contract, case by case.
 use borrow.Author.Needs.{needs}
 use Rattle.rules.specs.Counting.{countOr0}
 use Rattle.steps.proofs.pointer.count_or_0.Statement.{statement}

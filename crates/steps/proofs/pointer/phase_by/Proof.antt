@@ -1,4 +1,4 @@
--- `steps::pointer::phase_by` meets its contract, case by case. Assumes nothing.
+-- `steps::pointer::phase_by` meets its contract, case by case.
 use borrow.Author.Needs.{needs}
 use borrow.Author.Tests.{eq-eqb, ne-eqb}
 use mathlib.Core.Path.{sym}

@@ -1,4 +1,4 @@
--- `steps::pointer::phase_of` meets its contract: the own pointer, or the other. Assumes nothing.
+-- `steps::pointer::phase_of` meets its contract: the own pointer, or the other.
 use borrow.Author.Needs.{needs}
 use borrow.Author.Tests.{eq-eqb, ne-eqb}
 use Rattle.rules.specs.Counting.{orElse}

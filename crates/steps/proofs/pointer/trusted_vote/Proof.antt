@@ -1,4 +1,4 @@
--- `steps::pointer::trusted_vote` meets its contract. Assumes nothing.
+-- `steps::pointer::trusted_vote` meets its contract.
 use borrow.Author.Tests.{eq-eqb, ne-eqb}
 use Rattle.rules.specs.OneBeat.{trusted}
 use Rattle.steps.proofs.pointer.trusted_vote.Statement.{statement}
