@@ -1,10 +1,17 @@
 // The run program: standard input to standard output, a piece at a time, with fixed buffers. A failed read is the end of
 // the input, and a failed write the end of the output; either is told on standard error.
 ghost use Rattle.io.specs.Counts.{Counts};
+ghost use Rattle.feed.specs.Calls.{FeedsAll, Reached};
 use feed::Feed;
 use libc::STDERR_FILENO;
 use libc::STDIN_FILENO;
 use libc::STDOUT_FILENO;
+
+// Where a run stands, and whether all of its output was written.
+struct Ran {
+    feed: Feed,
+    whole: bool,
+}
 
 // Reads a piece, and answers how long it is: 0 where the input ends or the read failed.
 fn get(piece: &mut [u8]) -> usize
@@ -17,8 +24,12 @@ fn get(piece: &mut [u8]) -> usize
     io::count(got, piece)
 }
 
-// Writes some output, and answers whether all of it was written.
-fn put(text: &[u8]) -> bool {
+// Writes some output, and answers whether all of it and all before it was written. After a line that could not be written
+// nothing more is: another line behind a part of it would be read as one line with wrong counts.
+fn put(before: bool, text: &[u8]) -> bool {
+    if !before {
+        return false;
+    }
     let whole = io::write_all(STDOUT_FILENO, text);
     if !whole {
         io::write_all(
@@ -29,10 +40,13 @@ fn put(text: &[u8]) -> bool {
     whole
 }
 
-// Feeds a piece line by line, and writes each output line as it is known. After a line that could not be written nothing
-// more is: another line behind a part of it would be read as one line with wrong counts.
-fn run_piece(before: Feed, piece: &[u8], line: &mut [u8; 8005], table: &mut [u16; 400]) -> Feed {
+// Feeds a piece line by line, and writes each output line as it is known. All of the piece is fed, written or not, so that
+// the contract says for every piece where the run stands after it.
+fn run_piece(before: Feed, piece: &[u8], line: &mut [u8; 8005], table: &mut [u16; 400]) -> Ran
+    ensures { λ r. ⌜ FeedsAll before (now (piece .entry)) (now (line .entry)) (now (table .entry)) (r .feed) (now (line .exit)) (now (table .exit)) ⌝ }
+{
     let mut state = before;
+    let mut whole = true;
     let mut at: usize = 0;
     while at < piece.len() {
         let mut out = [0u8; 69];
@@ -40,45 +54,55 @@ fn run_piece(before: Feed, piece: &[u8], line: &mut [u8; 8005], table: &mut [u16
         state = fed.feed;
         at = fed.next;
         let written = fed.written;
-        if !put(&out[..written]) {
-            return Feed::Stopped;
-        }
+        whole = put(whole, &out[..written]);
     }
-    state
+    Ran { feed: state, whole }
 }
 
-fn is_stopped(state: Feed) -> bool {
+// Is there nothing more to do: a line was refused, or not all was written?
+fn is_over(ran: Ran) -> bool {
+    if !ran.whole {
+        return true;
+    }
+    let state = ran.feed;
     match state {
         Feed::Stopped => true,
         Feed::Reading(_, _) => false,
     }
 }
 
-// Reads to the end of the input, or to the first bad line. Nothing says that an input ends, so the turns are counted down,
-// from a number that no run uses up.
-fn run_input(line: &mut [u8; 8005], table: &mut [u16; 400]) -> Feed {
+// Reads to the end of the input, to the first bad line, or to a line that could not be written. Nothing says that an input
+// ends, so the turns are counted down, from a number that no run uses up.
+fn run_input(line: &mut [u8; 8005], table: &mut [u16; 400]) -> Ran
+    ensures { λ r. ⌜ Reached (r .feed) (now (line .exit)) (now (table .exit)) ⌝ }
+{
     let mut piece = io::large_buffer();
-    let mut state = feed::start();
+    let mut ran = Ran {
+        feed: feed::start(),
+        whole: true,
+    };
     let mut turns = u64::MAX;
     while turns > 0 {
         turns -= 1;
         let count = get(&mut piece);
         if count == 0 {
-            return state;
+            return ran;
         }
-        state = run_piece(state, &piece[..count], line, table);
-        if is_stopped(state) {
-            return state;
+        let state = ran.feed;
+        ran = run_piece(state, &piece[..count], line, table);
+        if is_over(ran) {
+            return ran;
         }
     }
-    state
+    ran
 }
 
 fn main() {
     let mut line = [0u8; 8005];
     let mut table = [0u16; 400];
     let mut out = [0u8; 69];
-    let state = run_input(&mut line, &mut table);
+    let ran = run_input(&mut line, &mut table);
+    let state = ran.feed;
     let written = feed::finish(state, &line, &mut table, &mut out);
-    put(&out[..written]);
+    put(ran.whole, &out[..written]);
 }

@@ -1,4 +1,4 @@
--- A text that is fed in pieces, cut anywhere, is run as a whole. Assumes nothing.
+-- A text that is fed in pieces, cut anywhere, is run as a whole.
 use mathlib.Core.Path.{_≡_, refl, sym, ap, _∙_}
 use mathlib.Core.Logic.{⊎-elim}
 use mathlib.Core.Bool.{true, false, not}
@@ -155,7 +155,7 @@ fed-one : (ch : ℕ) (t line : List ℕ) (run : Run) (written : List ℕ) → eq
 unfolding fed fedByte
 fed-one ch t line run written z = rw (z, one-held line ch)
 
-nothing-fed : (feed : Feed) → fed feed [] ≡ feed
+pub nothing-fed : (feed : Feed) → fed feed [] ≡ feed
 unfolding fed
 nothing-fed feed = refl
 

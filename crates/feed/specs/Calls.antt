@@ -1,4 +1,4 @@
--- What the calls on pieces do: the machine as it is kept, in a struct and in the caller's buffers. Assumes nothing.
+-- What the calls on pieces do: the machine as it is kept, in a struct and in the caller's buffers.
 use Prim.Native.Nat.{ℕ, _+_, _-_, _≤_, min}
 use mathlib.Core.Path.{_≡_}
 use mathlib.Core.List.{List, [], _∷_, _++_}
@@ -12,7 +12,7 @@ use Rattle.runfile.specs.Runs.{standing, keptOf, tableOf}
 use Rattle.feed.specs.declared.Feed.{Feed as Kept}
 use Rattle.feed.specs.declared.Feed.the-variants.{Reading, Stopped}
 use Rattle.feed.specs.declared.Fed.{Fed}
-use Rattle.feed.specs.Feeds.{Feed, reading, stopped, longest, fed, lastFed, finished}
+use Rattle.feed.specs.Feeds.{Feed, reading, stopped, longest, fed, lastFed, finished, start, fedPieces}
 
 -- the number of the line that a run waits for
 unfoldable pub numberOf : KeptRun → ℕ
@@ -106,7 +106,32 @@ pub record Finishes (m : Feed) (table out : List ℕ) (r : ℕ) (tableNext outNe
   pub records : tableNext ≡ sets table 0 (recordsOf (lastFed m))
   pub text : outNext ≡ sets out 0 (finished m)
 
--- what the calls on the parts of a text write, one after the other: each writes its own text, and the last what is left
-unfoldable pub callsWrite : Feed → List (List ℕ) → List ℕ
-callsWrite feed [] = finished feed
-callsWrite feed (part ∷ others) = writtenBy (fed feed part) ++ callsWrite (goingOn (fed feed part)) others
+-- What the calls on pieces write, as their contracts have it: the calls that a caller makes from some point on, to the end of the
+-- input. It holds `feed`, the state that was answered last, and the buffers `line` and `table`. Of the input are left `pieces`, the
+-- first of them from its place `at` on. A call is lent a buffer `out`, and writes as much of it as it answers; the next call takes
+-- its answer, and the buffers as it left them. `text` is all that is written, put together.
+pub data CallsWrite : (feed : Kept) (line table : List ℕ) (at : ℕ) (pieces : List (List ℕ)) (text : List ℕ) → Type 0 where
+  -- `feed_from` on the first piece, from the place on
+  feeds : {feed : Kept} {piece line table out lineNext tableNext outNext text : List ℕ} {at : ℕ} {others : List (List ℕ)} {r : Fed}
+      → length out ≡ mostWritten → Feeds feed piece at line table out r lineNext tableNext outNext
+      → CallsWrite (r .feed) lineNext tableNext (r .next) (piece ∷ others) text
+      → CallsWrite feed line table at (piece ∷ others) (take (r .written) outNext ++ text)
+  -- the first piece is at its end: the next one is fed from its place 0 on
+  turns : {feed : Kept} {piece line table text : List ℕ} {at : ℕ} {others : List (List ℕ)}
+      → length piece ≤ at → CallsWrite feed line table 0 others text → CallsWrite feed line table at (piece ∷ others) text
+  -- a line was refused: what is left need not be fed
+  leaves : {line table text : List ℕ} {at : ℕ} {pieces : List (List ℕ)}
+      → CallsWrite Stopped line table 0 [] text → CallsWrite Stopped line table at pieces text
+  -- no piece is left: `finish`
+  finishes : {feed : Kept} {line table out tableNext outNext : List ℕ} {at r : ℕ}
+      → length out ≡ mostWritten → Finishes (feedOf feed line table) table out r tableNext outNext
+      → CallsWrite feed line table at [] (take r outNext)
+
+-- all of a piece is fed: the run stands where that leads
+abbrev pub FeedsAll : Kept → List ℕ → List ℕ → List ℕ → Kept → List ℕ → List ℕ → Type 0
+FeedsAll feed piece line table feedNext lineNext tableNext = feedOf feedNext lineNext tableNext ≡ goingOn (fed (feedOf feed line table) piece)
+
+-- the run stands where some pieces, fed one after the other from the start on, lead
+pub record Reached (feed : Kept) (line table : List ℕ) : Type 0 where
+  pub pieces : List (List ℕ)
+  pub led : feedOf feed line table ≡ goingOn (fedPieces start pieces)

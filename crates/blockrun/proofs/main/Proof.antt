@@ -1,4 +1,4 @@
--- `blockrun::main` is safe and ends. Assumes nothing.
+-- `blockrun::main` is safe and ends.
 use borrow.Author.Needs.{needs}
 use mathlib.Core.Path.{sym, ap}
 use Prim.Native.Nat.{_≤_}
