@@ -1,4 +1,4 @@
--- The calls on pieces do what the machine does. Assumes nothing.
+-- The calls on pieces do what the machine does.
 use mathlib.Core.Path.{_≡_, refl, sym, ap, _∙_}
 use mathlib.Core.Logic.{_⊎_, inl, inr, ⊎-elim}
 use mathlib.Core.Bool.{true, false}

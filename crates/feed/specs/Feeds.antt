@@ -1,4 +1,4 @@
--- A run over a text that comes in pieces: a machine that is fed one character after the other. Assumes nothing.
+-- A run over a text that comes in pieces: a machine that is fed one character after the other.
 use Prim.Native.Nat.{ℕ, _+_}
 use mathlib.Core.Bool.{cond}
 use mathlib.Core.List.{List, [], _∷_, _++_}

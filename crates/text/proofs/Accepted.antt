@@ -1,4 +1,4 @@
--- What the refusals of writing and reading say of the inputs. Assumes nothing.
+-- What the refusals of writing and reading say of the inputs.
 use mathlib.Core.Path.{_≡_}
 use mathlib.Core.Bool.{true, not}
 use mathlib.Core.List.{List}

@@ -1,4 +1,4 @@
--- `feed::end_line` meets its contract. Assumes nothing.
+-- `feed::end_line` meets its contract.
 use borrow.Author.Needs.{needs}
 use mathlib.Core.Path.{sym}
 use lib.ListN.{take}

@@ -1,4 +1,4 @@
--- `feed::feed_from` meets its contract, case by case. Assumes nothing.
+-- `feed::feed_from` meets its contract, case by case.
 use borrow.Author.Needs.{needs}
 use Prim.Native.Nat.{_≤_}
 use native.Mathlib.Omega.{arith}

@@ -1,4 +1,4 @@
--- `feed::feed_part` meets its contract: the part is held, and at a line feed the line is at its end. Assumes nothing.
+-- `feed::feed_part` meets its contract: the part is held, and at a line feed the line is at its end.
 use borrow.Author.Needs.{needs}
 use mathlib.Core.List.{_++_}
 use Prim.Native.Nat.{_-_}

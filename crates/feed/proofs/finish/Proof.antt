@@ -1,4 +1,4 @@
--- `feed::finish` meets its contract, case by case. Assumes nothing.
+-- `feed::finish` meets its contract, case by case.
 use borrow.Author.Needs.{needs}
 use Rattle.feed.proofs.Calls.{finishes-stopped}
 use Rattle.feed.proofs.finish.Statement.{statement}

@@ -1,4 +1,4 @@
--- `feed::finish_line` meets its contract. Assumes nothing.
+-- `feed::finish_line` meets its contract.
 use borrow.Author.Needs.{needs}
 use mathlib.Core.Path.{_≡_, sym, ap, _∙_}
 use mathlib.Core.Logic.{_⊎_, ⊎-elim}

@@ -1,4 +1,4 @@
--- `feed::hold` meets its contract. Assumes nothing.
+-- `feed::hold` meets its contract.
 use borrow.Author.Needs.{needs}
 use mathlib.Core.Path.{_≡_, sym, _∙_}
 use mathlib.Core.Logic.{⊎-elim}

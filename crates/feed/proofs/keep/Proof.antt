@@ -1,4 +1,4 @@
--- `feed::keep` meets its contract: the buffer holds the characters passed. Assumes nothing.
+-- `feed::keep` meets its contract: the buffer holds the characters passed.
 use borrow.Author.Needs.{needs}
 use mathlib.Core.Path.{_≡_, refl}
 use Prim.Native.Nat.{_-_, _≤_}

@@ -1,4 +1,4 @@
--- `feed::number_of` meets its contract, case by case. Assumes nothing.
+-- `feed::number_of` meets its contract, case by case.
 use borrow.Author.Needs.{needs}
 use Rattle.feed.specs.Calls.{numberOf}
 use Rattle.feed.proofs.number_of.Statement.{statement}

@@ -1,4 +1,4 @@
--- `feed::put_missing` meets its contract, case by case. Assumes nothing.
+-- `feed::put_missing` meets its contract, case by case.
 use borrow.Author.Needs.{needs}
 use mathlib.Core.Path.{refl}
 use Rattle.feed.specs.Calls.{missing}

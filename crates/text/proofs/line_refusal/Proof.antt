@@ -1,4 +1,4 @@
--- `text::line_refusal` meets its contract. Assumes nothing.
+-- `text::line_refusal` meets its contract.
 use borrow.Author.Needs.{needs}
 use Rattle.text.proofs.line_refusal.Statement.{statement}
 use Rattle.text.proofs.line_refusal.Tie as tie

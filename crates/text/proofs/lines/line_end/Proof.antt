@@ -1,4 +1,4 @@
--- `text::lines::line_end` meets its contract: what is left of the line ends where the line does. Assumes nothing.
+-- `text::lines::line_end` meets its contract: what is left of the line ends where the line does.
 use borrow.Author.Needs.{needs}
 use mathlib.Core.Path.{_≡_, refl}
 use Prim.Native.Nat.{_+_, _-_}
