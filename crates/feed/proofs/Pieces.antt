@@ -1,5 +1,5 @@
--- A text that is fed in pieces, cut anywhere, is run as a whole.
-use mathlib.Core.Path.{_≡_, refl, sym, ap, _∙_}
+-- A text that is fed character by character is run as a whole.
+use mathlib.Core.Path.{_≡_, refl, sym, _∙_}
 use mathlib.Core.Logic.{⊎-elim}
 use mathlib.Core.Bool.{true, false, not}
 use mathlib.Core.List.{List, [], _∷_, _++_, append-assoc, append-nil}
@@ -19,7 +19,7 @@ use Rattle.text.specs.Lines.{lineLength}
 use Rattle.frames.proofs.Headers.{start-most, sent-most}
 use Rattle.runfile.specs.Runs.{runTests, takenLine}
 use Rattle.runfile.proofs.Takes.{taken-is}
-use Rattle.feed.specs.Feeds.{lineOf, Feed, reading, stopped, longest, withMore, afterLine, ended, fedByte, fed, lastFed, allWritten, finished, start, fedPieces, joined}
+use Rattle.feed.specs.Feeds.{lineOf, Feed, reading, stopped, longest, withMore, afterLine, ended, fedByte, fed, lastFed, allWritten, finished, start}
 
 -- feeding two pieces is feeding the one and then the other
 pub fed-append : (feed : Feed) (a b : List ℕ) → fed feed (a ++ b) ≡ fed (fed feed a) b
@@ -139,15 +139,6 @@ fed-lines (ch ∷ rest) line run written e p = ⊎-elim
 pub fed-all : (text : List ℕ) → finished (fed start text) ≡ runText text
 unfolding runText runTests lineOf noFeed
 fed-all text = fed-lines text [] atHeader [] refl tt
-
--- and so does a text that is fed in pieces, cut anywhere
-pieces-joined : (feed : Feed) (pieces : List (List ℕ)) → fedPieces feed pieces ≡ fed feed (joined pieces)
-unfolding fedPieces joined fed
-pieces-joined feed [] = refl
-pieces-joined feed (piece ∷ others) = pieces-joined (fed feed piece) others ∙ sym (fed-append feed piece (joined others))
-
-pub fed-pieces : (pieces : List (List ℕ)) → finished (fedPieces start pieces) ≡ runText (joined pieces)
-fed-pieces pieces = ap finished (pieces-joined start pieces) ∙ fed-all (joined pieces)
 
 -- a character that is no line feed is held
 fed-one : (ch : ℕ) (t line : List ℕ) (run : Run) (written : List ℕ) → eqb ch lineFeed ≡ false

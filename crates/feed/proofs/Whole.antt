@@ -17,7 +17,7 @@ use Rattle.runfile.proofs.Stores.{first-taken}
 use Rattle.feed.specs.declared.Feed.{Feed as Kept}
 use Rattle.feed.specs.declared.Feed.the-variants.{Reading, Stopped}
 use Rattle.feed.specs.declared.Fed.{Fed}
-use Rattle.feed.specs.Feeds.{lineOf, Feed, reading, stopped, afterLine, ended, fedByte, fed, lastFed, allWritten, finished, start, fedPieces, joined}
+use Rattle.feed.specs.Feeds.{lineOf, Feed, reading, stopped, afterLine, ended, fedByte, fed, lastFed, allWritten, finished, start, joined}
 use Rattle.feed.specs.Calls.{feedOf, writtenBy, goingOn, placeIn, nextOf, lineEnd, partFrom, mostWritten, Feeds, CallsWrite, feeds, turns, leaves, finishes, FeedsAll, Reached}
 use Rattle.feed.proofs.Pieces.{fed-append, fed-stopped, fed-all, nothing-fed}
 
@@ -165,18 +165,19 @@ all-fed Stopped piece at line table l = rw (fed-stopped [] (drop at piece))
 
 -- the start is reached by no piece, and from any run that is reached one piece more leads to another
 pub reached-start : (feed : Kept) (line table : List ℕ) → feed ≡ Reading AtHeader 0 → Reached feed line table
-unfolding fedPieces goingOn
+unfolding fed joined goingOn
 reached-start feed line table e = record { pieces = []; led = rw (e, starts line table) }
 
-pieces-more : (feed : Feed) (pieces : List (List ℕ)) (piece : List ℕ) → fedPieces feed (pieces ++ (piece ∷ [])) ≡ fed (fedPieces feed pieces) piece
-unfolding fedPieces
-pieces-more feed [] piece = refl
-pieces-more feed (first ∷ others) piece = pieces-more (fed feed first) others piece
+joined-more : (pieces : List (List ℕ)) (piece : List ℕ) → joined (pieces ++ (piece ∷ [])) ≡ joined pieces ++ piece
+unfolding joined
+joined-more [] piece = append-nil piece
+joined-more (first ∷ others) piece = rw (joined-more others piece, append-assoc first (joined others) piece)
 
 pub reached-more : (feed feedNext : Kept) (piece line table lineNext tableNext : List ℕ) → Reached feed line table
     → FeedsAll feed piece line table feedNext lineNext tableNext → Reached feedNext lineNext tableNext
 reached-more feed feedNext piece line table lineNext tableNext reached all =
+    let before = joined (reached .pieces) in
     record {
       pieces = reached .pieces ++ (piece ∷ []);
-      led = all ∙ rw (reached .led, pieces-more start (reached .pieces) piece) (goes-fed (fedPieces start (reached .pieces)) piece);
+      led = all ∙ rw (reached .led, joined-more (reached .pieces) piece, fed-append start before piece) (goes-fed (fed start before) piece);
     }

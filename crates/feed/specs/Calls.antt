@@ -12,7 +12,7 @@ use Rattle.runfile.specs.Runs.{standing, keptOf, tableOf}
 use Rattle.feed.specs.declared.Feed.{Feed as Kept}
 use Rattle.feed.specs.declared.Feed.the-variants.{Reading, Stopped}
 use Rattle.feed.specs.declared.Fed.{Fed}
-use Rattle.feed.specs.Feeds.{Feed, reading, stopped, longest, fed, lastFed, finished, start, fedPieces}
+use Rattle.feed.specs.Feeds.{Feed, reading, stopped, longest, fed, lastFed, finished, start, joined}
 
 -- the number of the line that a run waits for
 unfoldable pub numberOf : KeptRun → ℕ
@@ -134,4 +134,4 @@ FeedsAll feed piece line table feedNext lineNext tableNext = feedOf feedNext lin
 -- the run stands where some pieces, fed one after the other from the start on, lead
 pub record Reached (feed : Kept) (line table : List ℕ) : Type 0 where
   pub pieces : List (List ℕ)
-  pub led : feedOf feed line table ≡ goingOn (fedPieces start pieces)
+  pub led : feedOf feed line table ≡ goingOn (fed start (joined pieces))

@@ -64,11 +64,7 @@ finished feed = allWritten (lastFed feed)
 abbrev pub start : Feed
 start = reading atHeader [] []
 
--- one piece after the other
-unfoldable pub fedPieces : Feed → List (List ℕ) → Feed
-fedPieces feed [] = feed
-fedPieces feed (piece ∷ others) = fedPieces (fed feed piece) others
-
+-- the pieces of a text, put together
 unfoldable pub joined : List (List ℕ) → List ℕ
 joined [] = []
 joined (piece ∷ others) = piece ++ joined others
