@@ -25,7 +25,7 @@ pub fn wanted(text: &[u8]) -> Vec<u8> {
 }
 
 /// The running program, and both ends of it.
-pub fn start() -> (Child, ChildStdin, ChildStdout) {
+fn start() -> (Child, ChildStdin, ChildStdout) {
     let mut child = Command::new(launcher())
         .arg("run")
         .stdin(Stdio::piped())

@@ -1,9 +1,10 @@
 //! The proved program against the second implementation, to the byte.
 
-use std::fs;
-use std::io::{BufRead, BufReader};
+use std::fs::{self, File};
+use std::path::Path;
+use std::process::{Command, Stdio};
 
-use program::{output_of, root, send, start, wanted};
+use program::{launcher, output_of, root, send, wanted};
 use second::generate::runfiles::{damaged, Damage, RunFile};
 use second::generate::Shape;
 use second::random::Random;
@@ -108,17 +109,29 @@ fn the_examples_print_what_stands_beside_them() {
     assert!(found >= 3);
 }
 
-/// Some of the output is there while the input is still open.
+/// The program writes what it knows before it reads on. So when all but what a pipe and the program hold of a long input is
+/// taken, most of its output is there: it is looked for in a file, where nothing waits for what does not come.
 #[test]
 fn output_comes_before_the_input_ends() {
     let mut random = Random::new(106);
     let shape = Shape { n: 16, f: 5, c: 65_535 };
     let text = RunFile::of_length(&mut random, shape, 0b11111, 300).text();
-    let (mut child, mut input, output) = start();
-    send(&mut input, &text);
-    let mut line = String::new();
-    BufReader::new(output).read_line(&mut line).expect("a line");
-    assert!(wanted(&text).starts_with(line.as_bytes()));
+    let printed = Path::new(env!("CARGO_TARGET_TMPDIR")).join("before-the-end.txt");
+    let mut child = Command::new(launcher())
+        .arg("run")
+        .stdin(Stdio::piped())
+        .stdout(File::create(&printed).expect("a file for the output"))
+        .spawn()
+        .expect("the launcher starts");
+    let mut input = child.stdin.take().expect("its input is a pipe");
+    assert!(send(&mut input, &text), "the input is not taken to its end");
+    let early = fs::read(&printed).expect("what is printed by now");
     drop(input);
-    child.wait().expect("the program ends");
+    assert!(child.wait().expect("the program ends").success());
+
+    let whole = wanted(&text);
+    assert!(whole.starts_with(&early));
+    let lines = early.iter().filter(|&&byte| byte == b'\n').count();
+    assert!(lines >= 100, "{lines} lines of 301 came before the input ended");
+    assert!(fs::read(&printed).expect("what is printed") == whole);
 }
