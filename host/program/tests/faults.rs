@@ -71,14 +71,19 @@ fn small_file() -> Vec<u8> {
     RunFile::of_length(&mut Random::new(201), shape, 0b0100, 2).text()
 }
 
-/// A file far longer than all buffers between two processes.
-fn large_file() -> Vec<u8> {
+/// A file of so many beats of about 8,000 bytes each.
+fn file_of(beats: usize) -> Vec<u8> {
     let shape = Shape {
         n: 16,
         f: 5,
         c: 1_000,
     };
-    RunFile::of_length(&mut Random::new(202), shape, 0b11111, 300).text()
+    RunFile::of_length(&mut Random::new(202), shape, 0b11111, beats).text()
+}
+
+/// A file far longer than all buffers between two processes.
+fn large_file() -> Vec<u8> {
+    file_of(300)
 }
 
 /// A folder of a test's own, for what it writes.
@@ -97,22 +102,35 @@ fn an_input_that_ends_anywhere() {
     }
 }
 
-/// Each datagram is one read, and an empty one is the end.
-#[test]
-fn reads_of_one_byte() {
-    let text = small_file();
+/// What the launcher does with an input, of which it need not take all, where each byte is a read of its own: a datagram
+/// is one read, and an empty one is the end.
+fn fed_by_bytes(text: &[u8]) -> Output {
     let (ours, theirs) = UnixDatagram::pair().expect("a pair of sockets");
     let child = run()
         .stdin(OwnedFd::from(theirs))
         .stdout(Stdio::piped())
+        .stderr(Stdio::piped())
         .spawn()
         .expect("the launcher starts");
-    for byte in &text {
-        ours.send(&[*byte]).expect("the program takes a byte");
-    }
-    ours.send(&[]).expect("the program takes the end");
-    let ended = child.wait_with_output().expect("the launcher ends");
-    assert_eq!(text_of(&ended.stdout), text_of(&wanted(&text)));
+    let mut datagrams = text.chunks(1).chain([&b""[..]]);
+    thread::scope(|scope| {
+        scope.spawn(move || datagrams.all(|datagram| ours.send(datagram).is_ok()));
+        child.wait_with_output().expect("the launcher ends")
+    })
+}
+
+#[test]
+fn reads_of_one_byte() {
+    let text = small_file();
+    assert_ends(fed_by_bytes(&text), &wanted(&text), "", 0);
+}
+
+/// However many reads there were, none of them is taken for the last: here are more than a million, and more than 2^20.
+#[test]
+fn more_than_a_million_reads() {
+    let text = file_of(135);
+    assert!(text.len() > 1 << 20, "{} reads", text.len());
+    assert_ends(fed_by_bytes(&text), &wanted(&text), "", 0);
 }
 
 /// A socket that may not wait fails to be read behind the bytes that are there, as an interrupted read fails.
