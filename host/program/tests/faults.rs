@@ -2,7 +2,7 @@
 //! goes, the rest is told on standard error, and the launcher's exit status is not 0.
 
 use std::fs::{self, File, OpenOptions};
-use std::io::{BufRead, BufReader, Write};
+use std::io::Write;
 use std::os::unix::io::OwnedFd;
 use std::os::unix::net::{UnixDatagram, UnixStream};
 use std::path::PathBuf;
@@ -171,38 +171,56 @@ fn signal(name: &str, group: u32) {
     assert!(status.expect("a shell starts").success(), "{name}");
 }
 
+/// The state of each process of a group, as /proc has it: S sleeps, T is stopped, Z has ended.
+fn states(group: u32) -> Vec<String> {
+    let mut states = Vec::new();
+    for entry in fs::read_dir("/proc").expect("/proc") {
+        let file = entry.expect("a name in /proc").path().join("stat");
+        // Of what is no process, or is one no more, there is nothing to read.
+        let stat = fs::read_to_string(file).unwrap_or_default();
+        // NUMBER (NAME) STATE PARENT GROUP, and more.
+        let fields = stat.rsplit(") ").next().unwrap_or_default();
+        let fields: Vec<&str> = fields.split(' ').take(3).collect();
+        if fields.last() == Some(&group.to_string().as_str()) {
+            states.push(fields[0].to_string());
+        }
+    }
+    states
+}
+
+/// Waits until every process of a group is in this state.
+fn wait_until_all(state: &str, group: u32) {
+    let mut found = states(group);
+    while found.iter().any(|other| other != state) {
+        assert!(found.iter().any(|other| other != "Z"), "the launcher has ended");
+        thread::yield_now();
+        found = states(group);
+    }
+    assert!(!found.is_empty(), "the launcher has ended");
+}
+
 /// A signal that stops the program and one that lets it go on interrupt its read, and change nothing.
 #[test]
 fn a_program_that_is_stopped_and_goes_on() {
-    let text = small_file();
+    let text = large_file();
+    let lines: Vec<&[u8]> = text.split_inclusive(|&byte| byte == b'\n').collect();
+    let (most, last) = lines.split_at(lines.len() - 3);
     // A session of its own, and so a group of processes with the launcher's number.
-    let mut command = Command::new("setsid");
-    command
-        .arg(launcher())
-        .arg("run")
-        .stdin(Stdio::piped())
-        .stdout(Stdio::piped());
-    let mut child = command.spawn().expect("the launcher starts");
+    let mut child = started(Command::new("setsid").arg(launcher()).arg("run"));
     let mut input = child.stdin.take().expect("its input is a pipe");
-    let mut output = BufReader::new(child.stdout.take().expect("its output is a pipe"));
-    let mut written = String::new();
-    for (number, line) in text.split_inclusive(|&byte| byte == b'\n').enumerate() {
-        assert!(send(&mut input, line));
-        if number == 0 {
-            continue;
-        }
-        output
-            .read_line(&mut written)
-            .expect("a line of the output");
+    // When so much is taken, the launcher has started it.
+    assert!(send(&mut input, &most.concat()));
+    for line in last {
+        wait_until_all("S", child.id());
         signal("STOP", child.id());
+        // A stop that it has not seen is taken back by the signal to go on.
+        wait_until_all("T", child.id());
         signal("CONT", child.id());
+        assert!(send(&mut input, line));
     }
     drop(input);
-    output
-        .read_line(&mut written)
-        .expect("the end of the output");
-    assert_eq!(written, text_of(&wanted(&text)));
-    assert!(child.wait().expect("the launcher ends").success());
+    let ended = child.wait_with_output().expect("the launcher ends");
+    assert_ends(ended, &wanted(&text), "", 0);
 }
 
 /// Nothing is read any more after a write that failed: most of a large input is left over.
