@@ -1,7 +1,8 @@
 //! What the program answers to its arguments.
 
+use std::env;
 use std::io;
-use std::path::{Path, PathBuf};
+use std::path::PathBuf;
 
 use crate::case::Case;
 use crate::claims::crate_files;
@@ -46,7 +47,8 @@ fn compare(cases: &[Case]) -> io::Result<Result<String, String>> {
     Ok(figures(cases, &wrong, &refused))
 }
 
-/// The root of the repository.
+/// The root of the repository, asked at run time: a copy of the repository may have what was compiled elsewhere.
 pub fn root() -> PathBuf {
-    Path::new(env!("CARGO_MANIFEST_DIR")).join("../..")
+    let package = env::var_os("CARGO_MANIFEST_DIR").expect("cargo names the package's folder");
+    PathBuf::from(package).join("../..")
 }

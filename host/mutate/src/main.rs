@@ -3,7 +3,6 @@
 use std::env;
 use std::fs;
 use std::io;
-use std::path::{Path, PathBuf};
 use std::process::ExitCode;
 use std::thread;
 
@@ -14,7 +13,7 @@ use mutate::ending::Ending;
 use mutate::equivalents::{self, Equivalent};
 use mutate::mutant::{mutants, Mutant};
 use mutate::report::{line, summary, unmatched};
-use mutate::repository::libraries;
+use mutate::repository::{libraries, root};
 use mutate::run::{Outcome, Run};
 
 fn main() -> ExitCode {
@@ -28,10 +27,6 @@ fn main() -> ExitCode {
             ExitCode::FAILURE
         }
     }
-}
-
-fn root() -> PathBuf {
-    Path::new(env!("CARGO_MANIFEST_DIR")).join("../..")
 }
 
 fn said(error: io::Error) -> String {

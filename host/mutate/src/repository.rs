@@ -1,5 +1,6 @@
 //! The libraries of a repository, and their source files.
 
+use std::env;
 use std::fs;
 use std::io;
 use std::path::{Path, PathBuf};
@@ -8,6 +9,12 @@ use std::path::{Path, PathBuf};
 pub struct Source {
     pub name: String,
     pub text: String,
+}
+
+/// The root of the repository, asked at run time: a copy of the repository may have what was compiled elsewhere.
+pub fn root() -> PathBuf {
+    let package = env::var_os("CARGO_MANIFEST_DIR").expect("cargo names the package's folder");
+    PathBuf::from(package).join("../..")
 }
 
 /// The libraries that `crates.txt` lists, in its order. A program is none: no contract says what it writes.

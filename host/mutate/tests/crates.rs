@@ -2,18 +2,14 @@
 
 use std::collections::HashSet;
 use std::fs;
-use std::path::{Path, PathBuf};
 
 use mutate::choice::Choice;
 use mutate::equivalents;
 use mutate::mutant::{mutants, Mutant};
 use mutate::report::unmatched;
-use mutate::repository::libraries;
+use mutate::repository::{libraries, root};
 
-fn root() -> PathBuf {
-    Path::new(env!("CARGO_MANIFEST_DIR")).join("../..")
-}
-
+/// There are some, so that what is asked of each is asked.
 fn all() -> Vec<Mutant> {
     let libraries = libraries(&root()).unwrap();
     libraries

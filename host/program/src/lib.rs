@@ -1,15 +1,17 @@
 //! The proved run program, started as its users start it: by the launcher at the root of the repository.
 
+use std::env;
 use std::io::{ErrorKind, Read, Write};
-use std::path::{Path, PathBuf};
+use std::path::PathBuf;
 use std::process::{Child, ChildStdin, ChildStdout, Command, Stdio};
 use std::thread;
 
 use second::runfile::run;
 
-/// The root of the repository.
+/// The root of the repository. It is asked when a test runs: a copy of the repository may have what was compiled elsewhere.
 pub fn root() -> PathBuf {
-    Path::new(env!("CARGO_MANIFEST_DIR")).join("../..")
+    let package = env::var_os("CARGO_MANIFEST_DIR").expect("cargo names the package's folder");
+    PathBuf::from(package).join("../..")
 }
 
 /// The launcher at the root.

@@ -3,6 +3,7 @@
 mod xml;
 
 use std::collections::{BTreeMap, BTreeSet};
+use std::env;
 use std::fs;
 use std::path::Path;
 
@@ -362,7 +363,8 @@ fn a_seed_gives_one_picture() {
 
 #[test]
 fn the_picture_in_the_documents_is_the_one_drawn() {
-    let path = Path::new(env!("CARGO_MANIFEST_DIR")).join("../../docs/counts.svg");
+    let package = env::var_os("CARGO_MANIFEST_DIR").expect("cargo names the package's folder");
+    let path = Path::new(&package).join("../../docs/counts.svg");
     let kept = fs::read_to_string(path).expect("docs/counts.svg can be read");
     assert!(
         kept == picture(DRAWN),
