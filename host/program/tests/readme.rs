@@ -1,5 +1,6 @@
 //! Every command of README.md works as it is written there, and prints what is said there.
 
+use std::env;
 use std::fs::{self, Permissions};
 use std::os::unix::fs::{symlink, PermissionsExt};
 use std::path::{Path, PathBuf};
@@ -42,12 +43,19 @@ fn place() -> PathBuf {
     place
 }
 
+/// Where rustup keeps its compilers: below the user's HOME, unless it is told otherwise.
+fn compilers() -> PathBuf {
+    let home = || PathBuf::from(env::var_os("HOME").unwrap_or_default()).join(".rustup");
+    env::var_os("RUSTUP_HOME").map_or_else(home, PathBuf::from)
+}
+
 /// What some commands print, run as one script that ends at the first failure.
 fn printed(place: &Path, commands: &str) -> String {
     let output = Command::new("sh")
         .args(["-eu", "-c", commands])
         .current_dir(place)
         .env("HOME", place.join("home"))
+        .env("RUSTUP_HOME", compilers())
         .output()
         .expect("sh starts");
     assert!(output.status.success(), "{commands}\n{}", String::from_utf8_lossy(&output.stderr));
@@ -66,22 +74,26 @@ fn commands_print_what_is_said() {
     for block in blocks.iter().filter(|block| block.language == "c") {
         fs::write(place.join("count.c"), &block.text).expect("count.c can be written");
     }
-    let mut output = None;
-    let (mut run, mut compared) = (0, 0);
-    for block in &blocks {
-        if block.language == "sh" {
-            let lines = block.text.lines().filter(|line| !line.starts_with(GATE));
-            let commands = lines.collect::<Vec<_>>().join("\n");
-            output = (links_here(&place) || !commands.contains("cc ")).then(|| printed(&place, &commands));
-            run += 1;
-        } else if block.language == "text" {
-            if let Some(output) = output.take() {
-                assert_eq!(output, block.text);
-                compared += 1;
-            }
+    let is = |block: &Block, language: &str| block.language == language;
+    let told: Vec<_> = blocks.iter().filter(|block| is(block, "sh") || is(block, "text")).collect();
+    let (mut all, mut compared) = (String::new(), 0);
+    for (number, block) in told.iter().enumerate().filter(|(_, block)| is(block, "sh")) {
+        let lines = block.text.lines().filter(|line| !line.starts_with(GATE));
+        let commands = lines.collect::<Vec<_>>().join("\n");
+        if commands.contains("cc ") && !links_here(&place) {
+            continue;
         }
+        let output = printed(&place, &commands);
+        if let Some(said) = told.get(number + 1).filter(|next| is(next, "text")) {
+            assert_eq!(output, said.text);
+            compared += 1;
+        }
+        all += &output;
     }
-    assert!(run >= 3 && compared >= 1, "{run} blocks of commands run, {compared} compared");
+    assert_eq!(compared, if links_here(&place) { 2 } else { 1 });
+    assert!(all.contains("usage: ./tsendurkho COMMAND"), "the other commands are not told");
+    let [drawn, shown] = [place.join("counts.svg"), root().join("docs/counts.svg")].map(fs::read);
+    assert!(drawn.expect("a picture is drawn") == shown.expect("docs/counts.svg can be read"));
 }
 
 #[test]
