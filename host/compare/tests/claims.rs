@@ -42,11 +42,12 @@ fn a_name_of_two_files_is_brought_in_twice() {
 fn every_term_is_of_a_definition() {
     let imports = definitions().imports;
     let known: BTreeSet<&str> = imports.split(&[' ', ',', '{', '}'][..]).collect();
-    for case in draw(2 * KINDS.len(), 3) {
-        for equation in case.equations {
-            let definition = equation.term.split(' ').next().unwrap();
-            assert!(known.contains(definition), "{definition}");
-        }
+    let cases = draw(2 * KINDS.len(), 3);
+    let equations: Vec<_> = cases.iter().flat_map(|case| &case.equations).collect();
+    assert!(equations.len() >= 2 * KINDS.len());
+    for equation in equations {
+        let definition = equation.term.split(' ').next().unwrap();
+        assert!(known.contains(definition), "{definition}");
     }
 }
 
@@ -68,7 +69,9 @@ fn each_equation_is_a_claim_in_a_file_that_is_listed() {
         .iter()
         .map(|(_, text)| text.as_str())
         .collect::<String>();
-    for (value, name) in claim_names(&cases).iter().enumerate() {
+    let names = claim_names(&cases);
+    assert_eq!(names.len(), cases.len());
+    for (value, name) in names.iter().enumerate() {
         assert!(text.contains(&format!("\npub {name} : lagAnswer 8 1 7 ≡ pos {value}\n")));
         assert!(text.contains(&format!("\n{name} = refl\n")));
     }

@@ -52,7 +52,9 @@ fn the_kinds_take_turns() {
 
 #[test]
 fn a_case_makes_claims_of_different_names_and_wrong_values_differ() {
-    for case in draw(10 * KINDS.len(), 2) {
+    let cases = draw(10 * KINDS.len(), 2);
+    assert_eq!(cases.len(), 10 * KINDS.len());
+    for case in cases {
         let abouts: BTreeSet<_> = case.equations.iter().map(|one| &one.about).collect();
         assert!(!abouts.is_empty());
         assert_eq!(abouts.len(), case.equations.len());
@@ -152,7 +154,8 @@ fn lines_are_found_and_missed() {
 fn run_files_end_well_and_badly() {
     let refused =
         |outputs: Vec<Value>| outputs.iter().filter(|output| ends_refused(output)).count();
-    assert_eq!(refused(values(good_file, "output")), 0);
+    let outputs = values(good_file, "output");
+    assert_eq!((outputs.len(), refused(outputs)), (400, 0));
     assert_eq!(refused(values(good_file, "of-line-1")), 400);
     assert!((800..1_600).contains(&refused(values(damaged_files, "output"))));
 }

@@ -12,10 +12,12 @@ use mutate::repository::{libraries, root};
 /// There are some, so that what is asked of each is asked.
 fn all() -> Vec<Mutant> {
     let libraries = libraries(&root()).unwrap();
-    libraries
+    let all: Vec<_> = libraries
         .iter()
         .flat_map(|library| mutants(&root(), library).unwrap())
-        .collect()
+        .collect();
+    assert!(!all.is_empty());
+    all
 }
 
 fn source_of(mutant: &Mutant) -> String {
@@ -106,9 +108,11 @@ fn a_mutant_differs_from_its_source_in_the_place_that_it_names() {
 fn comments_contracts_and_declarations_stay() {
     for mutant in all() {
         let source = source_of(&mutant);
+        let kept_of_source = kept(&source);
+        assert!(!kept_of_source.is_empty(), "{}", mutant.file);
         assert_eq!(
             kept(&mutant.edit.apply(&source)),
-            kept(&source),
+            kept_of_source,
             "{}",
             mutant.name()
         );
@@ -119,6 +123,7 @@ fn comments_contracts_and_declarations_stay() {
 fn every_mutant_that_is_listed_as_equivalent_exists() {
     let document = fs::read_to_string(root().join("docs/MUTATION.md")).unwrap();
     let equivalents = equivalents::parse(&document).unwrap();
+    assert!(!equivalents.is_empty());
     assert_eq!(unmatched(&equivalents, &[], &all()), Vec::<&str>::new());
 }
 

@@ -111,6 +111,16 @@ fn words_read(shape: Shape, card: u32) -> Vec<Vec<bool>> {
     reads
 }
 
+#[test]
+fn the_shapes_are_all_that_the_rules_allow() {
+    let shapes = Shape::each(&mut Random::new(9));
+    let cards: Vec<_> = shapes.iter().map(|shape| (shape.n, shape.f)).collect();
+    let all = (1..=16).flat_map(|n| (0..=5).map(move |f| (n, f)));
+    let allowed: Vec<_> = all.filter(|(n, f)| 3 * f < *n).collect();
+    assert_eq!(cards, allowed);
+    assert_eq!(allowed.len(), 51);
+}
+
 /// The next record of a call, which must succeed.
 fn next_record(mut call: StepCall) -> Vec<u16> {
     call.make().unwrap();

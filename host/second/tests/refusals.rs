@@ -81,19 +81,20 @@ fn reading_alone_and_in_pairs() {
 
 #[test]
 fn each_call_tests_in_the_order_of_the_table() {
-    fn in_order<C: Call>() {
-        let tested = |refusal: &Refusal| C::REFUSALS.contains(refusal);
+    fn in_order<C: Call>(numbers: &[u8]) {
+        let tested = |refusal: &Refusal| numbers.contains(&refusal.number());
         let of_table: Vec<_> = Refusal::TABLE.into_iter().filter(tested).collect();
         assert_eq!(C::REFUSALS, of_table);
+        assert_eq!(of_table.len(), numbers.len());
     }
-    in_order::<ParametersCall>();
-    in_order::<StepCall>();
-    in_order::<StepBytesCall>();
-    in_order::<BeatCall>();
-    in_order::<ShownCall>();
-    in_order::<LagCall>();
-    in_order::<WriteCall>();
-    in_order::<ReadCall>();
+    in_order::<ParametersCall>(&[1, 2]);
+    in_order::<StepCall>(&[1, 2, 3, 4, 5, 6]);
+    in_order::<StepBytesCall>(&[1, 2, 3, 4, 5, 6]);
+    in_order::<BeatCall>(&[1, 2, 3, 5, 6, 7, 8]);
+    in_order::<ShownCall>(&[1, 2, 3, 5]);
+    in_order::<LagCall>(&[3, 9]);
+    in_order::<WriteCall>(&[1, 2, 5, 6]);
+    in_order::<ReadCall>(&[1, 2, 6, 10]);
     let numbers = Refusal::TABLE.map(Refusal::number);
     assert_eq!(numbers, [1, 2, 3, 7, 4, 5, 8, 6, 9, 10, 11]);
 }

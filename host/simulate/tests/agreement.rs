@@ -65,5 +65,6 @@ fn the_runs_reach_every_shape_every_start_and_every_kind_of_lie() {
 #[test]
 fn the_same_seeds_give_the_same_outcomes() {
     let [once, again] = [(); 2].map(|()| Survey::new(RIGHT, 12).outcomes);
+    assert_eq!(once.len(), 12);
     assert_eq!(once, again);
 }

@@ -20,6 +20,7 @@ fn the_table_has_a_row_for_each_f() {
     let table = lines(&["24"]);
     assert_eq!(table[0][..5], ["f", "runs", "T(f)", "latest", "of"]);
     let bounds = ["1", "192", "446", "509", "826", "889"];
+    assert_eq!(table.len(), 1 + bounds.len());
     let mut runs = 0;
     for (f, row) in table[1..].iter().enumerate() {
         assert_eq!(row[0], f.to_string());
@@ -31,12 +32,16 @@ fn the_table_has_a_row_for_each_f() {
 
 #[test]
 fn the_answer_is_the_same_each_time() {
+    assert!(lines(&["6"]).len() > 1);
     assert_eq!(answer(&["6"]), answer(&["6"]));
 }
 
 #[test]
 fn the_search_for_the_fault_tells_of_all_three_cooldowns() {
-    let search = lines(&["--fault", "cooldown", "8"]).concat().join(" ");
+    let told = lines(&["--fault", "cooldown", "8"]);
+    let has_f = |line: &&Vec<String>| line.iter().take(1).any(|f| f.parse::<u32>().is_ok());
+    assert_eq!(told.iter().filter(has_f).count(), 5);
+    let search = told.concat().join(" ");
     for wanted in ["2·c1: latest", "c1: latest", "t: latest", "lies:"] {
         assert!(search.contains(wanted), "{wanted}");
     }

@@ -25,13 +25,17 @@ fn strategy(name: &str) -> Strategy {
     *named.next().expect("a strategy has this name")
 }
 
+/// The beats of a run past T(f).
+const BEATS: usize = 520;
+
 /// Shows `watch` all that these liars tell sound cards in a run past T(f).
 fn watch_run(strategy: Strategy, mut watch: impl FnMut(&Telling, Vec<u16>)) {
+    let mut watched = 0;
     let mut random = Random::new(3);
     let start = Start::NearTheModuli.table(SHAPE, &mut random);
     let mut scene = Scene::new(SHAPE, BROKEN, start, RIGHT);
     let mut liars = Liars::new(vec![strategy], Random::new(4));
-    while scene.beat < 520 {
+    while scene.beat < BEATS {
         for liar in scene.broken_cards() {
             for listener in scene.sound_cards() {
                 let telling = Telling {
@@ -40,10 +44,13 @@ fn watch_run(strategy: Strategy, mut watch: impl FnMut(&Telling, Vec<u16>)) {
                     listener,
                 };
                 watch(&telling, (strategy.tell)(&telling, &mut random));
+                watched += 1;
             }
         }
         scene.advance(&mut liars);
     }
+    // Three broken cards, and seven sound ones.
+    assert_eq!(watched, BEATS * 3 * 7);
 }
 
 /// Whether a listener is told what no sound card would tell it.

@@ -143,6 +143,8 @@ fn texts_lie_on_the_page_and_apart() {
             let found = part.named("text").into_iter();
             texts.extend(found.map(|text| (&text.text, text_box(down, text))));
         }
+        assert_eq!(texts.len(), svg.named("text").len());
+        assert!(!texts.is_empty());
         for (i, (text, [left, right, top, bottom])) in texts.iter().enumerate() {
             assert!(*left >= 0.0 && *right <= svg.number("width"), "{text:?}");
             assert!(*top >= 0.0 && *bottom <= svg.number("height"), "{text:?}");

@@ -39,6 +39,7 @@ fn every_half_of_a_settled_state_is_trusted() {
     let mut random = Random::new(2);
     for shape in Shape::each(&mut random) {
         let table = settled(shape, &mut random);
+        assert_eq!(table.len(), shape.table_words());
         for (card, record) in table.chunks_exact(shape.words()).enumerate() {
             for level in Level::path(shape, card)
                 .iter()
