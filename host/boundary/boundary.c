@@ -33,9 +33,17 @@ typedef struct {
 
 typedef uint8_t *(*Place)(Room *room, size_t count);
 
+/* The answers that there are, a bit each. */
+enum {
+    STEP_ANSWERS = 1 | 1 << TSENDURKHO_BAD_CARDS | 1 << TSENDURKHO_BAD_BROKEN | 1 << TSENDURKHO_BAD_MODULUS |
+                   1 << TSENDURKHO_BAD_CARD | 1 << TSENDURKHO_BAD_RECORDS | 1 << TSENDURKHO_BAD_OUTPUT,
+    LAG_ANSWERS = 1 | 1 << TSENDURKHO_BAD_MODULUS | 1 << TSENDURKHO_BAD_LAG
+};
+
 static Room records_room, out_room;
 static uint8_t *nowhere;
 static long lines, calls;
+static int step_answers, lag_answers; /* those that were looked for */
 
 static void fail(const char *what)
 {
@@ -186,6 +194,7 @@ static void read_step(Call *call)
     if (numbers != 5 || call->after.count != call->out.count) {
         fail("this is no step");
     }
+    step_answers |= 1 << call->refusal;
 }
 
 static void try_lag(void)
@@ -195,6 +204,7 @@ static void try_lag(void)
     if (scanf("%u %u %u %u %d", &c, &x, &y, &refusal, &value) != 5) {
         fail("this is no lag");
     }
+    lag_answers |= 1 << refusal;
     calls += 2;
     if (tsendurkho_lag_refusal(c, x, y) != refusal || tsendurkho_lag(c, x, y) != value) {
         fail("another lag");
@@ -217,6 +227,9 @@ int main(void)
             try_step(&call);
         }
     }
+    if (step_answers != STEP_ANSWERS || lag_answers != LAG_ANSWERS) {
+        fail("an answer was never looked for");
+    }
     printf("boundary: %ld calls\n", calls);
-    return calls == 0;
+    return 0;
 }
