@@ -17,7 +17,8 @@ enum {
     BYTES = 2 * WORDS,
     COUNT = 6, /* where the count stands in a record */
     SILENT = 3,
-    ALIKE = 5 /* beats to see before the example ends */
+    ALIKE = 5,    /* beats to see before the example ends */
+    SETTLED = 192 /* T(f) for f = 1: from this beat on they show one same count */
 };
 
 typedef uint8_t Record[BYTES];
@@ -113,6 +114,10 @@ int main(void)
             print_counts(beats, held);
         }
         alike = agree(held) ? alike + 1 : 0;
+        if (alike == 0 && beats >= SETTLED) {
+            fprintf(stderr, "no common count on beat %d\n", beats);
+            return 1;
+        }
     }
     return 0;
 }

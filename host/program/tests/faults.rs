@@ -125,7 +125,7 @@ fn reads_of_one_byte() {
     assert_ends(fed_by_bytes(&text), &wanted(&text), "", 0);
 }
 
-/// A program that counts its reads, and stops after so many, would answer the rest of the input as if it were not there.
+/// However many reads there were, none of them is taken for the last: here are more than a million, and more than 2^20.
 #[test]
 fn more_than_a_million_reads() {
     let text = file_of(135);
