@@ -2,8 +2,10 @@
 
 use std::env;
 use std::fs;
-use std::path::{Path, PathBuf};
+use std::path::PathBuf;
 use std::process::{Command, Output};
+
+use program::root;
 
 /// A folder of a test's own, with the scripts in it. It is removed at the end.
 pub struct Copy {
@@ -14,6 +16,7 @@ impl Copy {
     /// The scripts alone.
     pub fn of_scripts(name: &str) -> Copy {
         let folder = env::temp_dir().join(format!("gate-{}-{name}", std::process::id()));
+        fs::create_dir(&folder).expect("a folder for the copy");
         let copy = Copy { folder };
         copy.take(".ci");
         copy
@@ -29,7 +32,8 @@ impl Copy {
     }
 
     fn take(&self, part: &str) {
-        duplicate(&root().join(part), &self.path(part));
+        let copied = Command::new("cp").arg("-R").arg(root().join(part)).arg(&self.folder).status();
+        assert!(copied.expect("cp starts").success(), "{part} could not be copied");
     }
 
     pub fn path(&self, file: &str) -> PathBuf {
@@ -93,22 +97,5 @@ impl Ended {
         assert_eq!(self.0.status.code(), Some(1), "{}{}", self.printed(), self.told());
         let told = self.told();
         assert_eq!(told.lines().collect::<Vec<_>>(), lines);
-    }
-}
-
-fn root() -> PathBuf {
-    let package = env::var_os("CARGO_MANIFEST_DIR").expect("cargo names the package's folder");
-    Path::new(&package).join("../..")
-}
-
-fn duplicate(from: &Path, to: &Path) {
-    if from.is_dir() {
-        fs::create_dir_all(to).expect("a folder for the copy");
-        for entry in fs::read_dir(from).expect("the folder can be read") {
-            let name = entry.expect("an entry").file_name();
-            duplicate(&from.join(&name), &to.join(&name));
-        }
-    } else {
-        fs::copy(from, to).expect("the file can be copied");
     }
 }

@@ -184,15 +184,39 @@ fn a_lemma_of_another_contract() {
     );
 }
 
+/// A way out behind the statement, on its line or on the next; and a lemma that sees nothing of the answer.
+#[test]
+fn a_lemma_that_says_less() {
+    let over = "Determined lag-kinds.ps lag-kinds.r lag-reads.Pre lag-reads.Post\n";
+    let way_out = over.replace("Post\n", "Post ⊎ Unit\n");
+    let on_the_next_line = over.replace("Post\n", "Post\n    ⊎ Unit\n");
+    let blind = over.replace("Determined", "DeterminedAs").replace("Post\n", "Post (λ κs. Unit) (λ κs r. tt)\n");
+    for less in [way_out, on_the_next_line, blind] {
+        told(
+            "says-less",
+            |copy| copy.replace(LEMMAS, over, &less),
+            &["contracts: lag::lag_of: there is no lemma lag-determined over its contract"],
+        );
+    }
+}
+
+const OTHER_MEANING: [&str; 2] = [
+    "contracts: lag::lag_refusal: crates/lag/proofs/Determined.antt does not use what the rules say of one result",
+    "contracts: lag::lag_of: crates/lag/proofs/Determined.antt does not use what the rules say of one result",
+];
+
 #[test]
 fn a_lemma_of_another_meaning() {
+    let ours = "use Rattle.rules.proofs.Determined.{Determined";
     told(
         "another-meaning",
-        |copy| copy.replace(LEMMAS, "use Rattle.rules.proofs.Determined.{Determined", "use Rattle.lag.proofs.Parts.{Determined"),
-        &[
-            "contracts: lag::lag_refusal: crates/lag/proofs/Determined.antt does not use what the rules say of one result",
-            "contracts: lag::lag_of: crates/lag/proofs/Determined.antt does not use what the rules say of one result",
-        ],
+        |copy| copy.replace(LEMMAS, ours, "use Rattle.lag.proofs.Parts.{Determined"),
+        &OTHER_MEANING,
+    );
+    told(
+        "own-meaning",
+        |copy| copy.append(LEMMAS, "\nabbrev Determined : Type 0\nDetermined = Unit\n"),
+        &OTHER_MEANING,
     );
 }
 
