@@ -4,8 +4,8 @@ ghost use Prim.Native.Nat.{_<_, _≤_};
 ghost use lib.ListN.{length};
 ghost use lib.Seq.{sets};
 ghost use Rattle.rules.specs.Groups.{wordOf};
-ghost use Rattle.rules.specs.RunFile.{startWords, shownWord, outputLine, refusalLine};
-ghost use Rattle.frames.specs.Headers.{said, testsOf};
+ghost use Rattle.rules.specs.RunFile.{headerTests, startWords, shownWord, outputLine, refusalLine};
+ghost use Rattle.frames.specs.Headers.{said};
 use super::header::Header;
 use digits::put_number;
 use digits::words::put_word;
@@ -27,7 +27,7 @@ fn word_of(count: Vote) -> u16
 
 // "for each card in order, its shown count, ffff for none or broken"
 fn shown_word(h: Header, table: &[u16], v: u32) -> u16
-    requires { ⌜ (testsOf (said h) ≡ 0) × (v < h .n) × (startWords (said h) ≤ length (now table)) ⌝ }
+    requires { ⌜ (headerTests (said h) ≡ 0) × (v < h .n) × (startWords (said h) ≤ length (now table)) ⌝ }
     ensures { λ r. ⌜ r ≡ shownWord (said h) (now (table .entry)) v ⌝ }
 {
     if is_broken(h.set, v) {
@@ -42,7 +42,7 @@ fn shown_word(h: Header, table: &[u16], v: u32) -> u16
 
 // Writes the line of an accepted frame: the beat and the shown counts.
 pub fn put_line(h: Header, beat: u16, table: &[u16], out: &mut [u8; 69]) -> usize
-    requires { ⌜ (testsOf (said h) ≡ 0) × (startWords (said h) ≤ length (now table)) ⌝ }
+    requires { ⌜ (headerTests (said h) ≡ 0) × (startWords (said h) ≤ length (now table)) ⌝ }
     ensures { λ r. ⌜ (r ≡ length (outputLine (said h) beat (now (table .entry)))) × (now (out .exit) ≡ sets (now (out .entry)) 0 (outputLine (said h) beat (now (table .entry)))) ⌝ }
 {
     put_word(out, 0, beat);

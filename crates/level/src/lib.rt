@@ -3,7 +3,7 @@ pub mod group;
 use group::Group;
 use params::Row;
 use rules::Vote;
-use steps::Stand;
+use steps::Standing;
 ghost use mathlib.Core.Path.{_≡_};
 ghost use Prim.Native.Nat.{ℕ, _+_, _<_, _≤_, min};
 ghost use lib.ListN.{length};
@@ -154,16 +154,16 @@ fn next_vote(recs: &[u16], g: Group, half: usize, m: u16) -> Vote
 }
 
 // a and b, by the step that the old M and w pick.
-fn next_stand(recs: &[u16], g: Group, card: usize, own: Level, row: Row) -> Stand
+fn next_standing(recs: &[u16], g: Group, card: usize, own: Level, row: Row) -> Standing
     requires { ⌜ (Split (length (now recs)) g) × (card < g .n) × (row ≡ rowRead (g .f)) × (own ≡ levelRead (g .f) (g .c) (heardBy (now recs) g card)) ⌝ }
     ensures { λ r. ⌜ standing r ≡ nextStanding (g .n) (g .f) (g .c) (heardBy (now (recs .entry)) g) card ⌝ }
 {
     let d = own.phase(g, card, row);
     let a = own.a;
-    let old = Stand { a: a, b: own.b };
+    let old = Standing { a: a, b: own.b };
     let s = steps::three_steps(recs, group::column(g, 6), g.f, g.c, d, old);
     let stepped = s.a;
-    Stand {
+    Standing {
         a: steps::gain(g.c, stepped),
         b: s.b,
     }
@@ -178,7 +178,7 @@ pub fn next_level(recs: &[u16], g: Group, card: usize, row: Row) -> Level
     let vote0 = next_vote(recs, g, 0, row.c0);
     let vote1 = next_vote(recs, g, 1, row.c1);
     let voted = own.voted_zero(vote0, row).voted_one(vote1, row);
-    let stand = next_stand(recs, g, card, own, row);
+    let stand = next_standing(recs, g, card, own, row);
     let a = stand.a;
     Level {
         m0: common_output(recs, group::half_zero(g, row.c0)),

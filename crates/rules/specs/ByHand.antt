@@ -15,7 +15,7 @@ use Rattle.rules.specs.OneBeat.{Standing, sentBy, enough, mostSent, most
 use Rattle.rules.specs.WholeBeat.{isBroken, brokenBelow, badSet, heardOnBeat, heldRecord, recordAfter, tableAfter}
 use Rattle.rules.specs.Lag.{nearest, lagOf}
 use Rattle.rules.specs.Text.{digitOf, isDigit, valueOf, hexOf, numberAt, allDigits, wellFormed, wordsAt, lineFeed, oneMore, inFront, linesOf}
-use Rattle.rules.specs.RunFile.{headerOf, headerRefusal, startRefusal, beatRefusal, shownWord, outputLine, refusalLine, orRefused, takeLine, atEnd, continued, runLines, runText}
+use Rattle.rules.specs.RunFile.{headerOf, headerRefusal, startLineRefusal, beatLineRefusal, shownWord, outputLine, refusalLine, orRefused, takeLine, atEnd, continued, runLines, runText}
 
 -- what a definition gives, and what document 01 prints for it
 pub record Case : Type 0 where
@@ -88,5 +88,5 @@ started = line 12 0x000000020001
 pub worked-run :
     (runText (opening ++ line 4 1 ++ line 4 2) ≡ started ++ line 12 0x000100000000 ++ line 12 0x000200010001)
     × (runText (opening ++ line 4 2 ++ line 4 2) ≡ started ++ line 14 0xffff000000030b)
-unfolding countBelow largestBelow least orElse countOr0 same rows digitsIn binaryDigits readVote wordOf leafNext groupNext padded nextRecord shownCount isBroken brokenBelow badSet heardOnBeat heldRecord recordAfter tableAfter digitOf isDigit valueOf hexOf numberAt allDigits wellFormed wordsAt oneMore inFront linesOf headerOf headerRefusal startRefusal beatRefusal shownWord outputLine refusalLine orRefused takeLine atEnd continued runLines runText
+unfolding countBelow largestBelow least orElse countOr0 same rows digitsIn binaryDigits readVote wordOf leafNext groupNext padded nextRecord shownCount isBroken brokenBelow badSet heardOnBeat heldRecord recordAfter tableAfter digitOf isDigit valueOf hexOf numberAt allDigits wellFormed wordsAt oneMore inFront linesOf headerOf headerRefusal startLineRefusal beatLineRefusal shownWord outputLine refusalLine orRefused takeLine atEnd continued runLines runText
 worked-run = (refl, refl)

@@ -15,7 +15,7 @@ use Rattle.rules.specs.WholeBeat.{tableAfter}
 use Rattle.rules.specs.Lag.{lagOf}
 use Rattle.rules.specs.Bytes.{wordAt, bytesOf}
 use Rattle.rules.specs.Text.{textOf, wordsAt}
-use Rattle.rules.specs.Refusals.{paramsRefusal, stepRefusal, stepBytesRefusal, beatRefusal, shownRefusal, lagRefusal, writeRefusal, readRefusal}
+use Rattle.rules.specs.Refusals.{shapeRefusal, stepRefusal, stepBytesRefusal, beatRefusal, shownRefusal, lagRefusal, writeRefusal, readRefusal}
 
 -- the one where nothing is refused, else the other
 abbrev pub unlessRefused : {A : Type 0} → ℕ → A → A → A
@@ -47,7 +47,7 @@ abbrev pub noRow : Parameters
 noRow = record { turn = 0; c0 = 0; c1 = 0; restart = 0; words = 0; beats = 0 }
 
 unfoldable pub paramsAnswer : ℕ → ℕ → Parameters
-paramsAnswer n f = unlessRefused (paramsRefusal n f) (rowOf f) noRow
+paramsAnswer n f = unlessRefused (shapeRefusal n f 0) (rowOf f) noRow
 
 -- one card's step, on words
 unfoldable pub stepOut : ℕ → ℕ → ℕ → ℕ → List ℕ → List ℕ → List ℕ

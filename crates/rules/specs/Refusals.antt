@@ -18,17 +18,17 @@ abbrev pub wrong : ℕ → ℕ → Bool
 wrong size needed = not (eqb size needed)
 
 -- "The call that answers the parameters of n and f tests only 1 and 2"
-abbrev pub paramsRefusal : ℕ → ℕ → ℕ
-paramsRefusal n f = given 1 (badCards n) (given 2 (badBroken n f) 0)
+abbrev pub shapeRefusal : ℕ → ℕ → ℕ → ℕ
+shapeRefusal n f others = given 1 (badCards n) (given 2 (badBroken n f) others)
 
 -- the first three, and then the others
-abbrev pub shapeRefusal : ℕ → ℕ → ℕ → ℕ → ℕ
-shapeRefusal n f c others = given 1 (badCards n) (given 2 (badBroken n f) (given 3 (badModulus c) others))
+abbrev pub counterRefusal : ℕ → ℕ → ℕ → ℕ → ℕ
+counterRefusal n f c others = shapeRefusal n f (given 3 (badModulus c) others)
 
 -- "One card's step takes n, f, c, the card number, the n records and the output buffer."
 abbrev pub stepRefusal : ℕ → ℕ → ℕ → ℕ → ℕ → ℕ → ℕ
 stepRefusal n f c card records out =
-    shapeRefusal n f c
+    counterRefusal n f c
     (given 4 (leb n card)
     (given 5 (wrong records (n * recordWords f))
     (given 6 (wrong out (recordWords f)) 0)))
@@ -36,7 +36,7 @@ stepRefusal n f c card records out =
 -- the same on bytes: "an odd byte count is a wrong length"
 abbrev pub stepBytesRefusal : ℕ → ℕ → ℕ → ℕ → ℕ → ℕ → ℕ
 stepBytesRefusal n f c card records out =
-    shapeRefusal n f c
+    counterRefusal n f c
     (given 4 (leb n card)
     (given 5 (wrong records (2 * (n * recordWords f)))
     (given 6 (wrong out (2 * recordWords f)) 0)))
@@ -44,7 +44,7 @@ stepBytesRefusal n f c card records out =
 -- "The whole beat takes n, f, c, the broken set, the n records, the broken cards' words and the output buffer."
 abbrev pub beatRefusal : ℕ → ℕ → ℕ → ℕ → ℕ → ℕ → ℕ → ℕ
 beatRefusal n f c set held sent out =
-    shapeRefusal n f c
+    counterRefusal n f c
     (given 7 (badSet n f set)
     (given 5 (wrong held (n * recordWords f))
     (given 8 (wrong sent (sentWords n f set))
@@ -52,7 +52,7 @@ beatRefusal n f c set held sent out =
 
 -- "The shown count takes n, f, c and one record."
 abbrev pub shownRefusal : ℕ → ℕ → ℕ → ℕ → ℕ
-shownRefusal n f c words = shapeRefusal n f c (given 5 (wrong words (recordWords f)) 0)
+shownRefusal n f c words = counterRefusal n f c (given 5 (wrong words (recordWords f)) 0)
 
 -- "the lag tests only 3 and 9"; 9: "a lag input at or above c"
 abbrev pub lagRefusal : ℕ → ℕ → ℕ → ℕ
@@ -61,18 +61,14 @@ lagRefusal c x y = given 3 (badModulus c) (given 9 (leb c x || leb c y) 0)
 -- "Writing a record as text, and reading one, take n, f, the record or the text, and the output buffer."
 abbrev pub writeRefusal : ℕ → ℕ → ℕ → ℕ → ℕ
 writeRefusal n f words out =
-    given 1 (badCards n)
-    (given 2 (badBroken n f)
-    (given 5 (wrong words (recordWords f))
-    (given 6 (wrong out (4 * recordWords f)) 0)))
+    shapeRefusal n f (given 5 (wrong words (recordWords f)) (given 6 (wrong out (4 * recordWords f)) 0))
 
 -- "text with a wrong length or a character outside 0-9, a-f"
 abbrev pub readRefusal : ℕ → ℕ → List ℕ → ℕ → ℕ
 readRefusal n f text out =
-    given 1 (badCards n)
-    (given 2 (badBroken n f)
+    shapeRefusal n f
     (given 6 (wrong out (recordWords f))
-    (given 10 (not (wellFormed (4 * recordWords f) text)) 0)))
+    (given 10 (not (wellFormed (4 * recordWords f) text)) 0))
 
 -- "a second call answers the refusal, 10 if there is no such line and otherwise 0"
 abbrev pub lineRefusal : ℕ → List ℕ → ℕ

@@ -11,13 +11,13 @@ ghost use Rattle.columns.specs.Columns.{Within, votesIn};
 ghost use Rattle.steps.specs.Standings.{standing};
 
 // The two words that the three steps change.
-pub struct Stand {
+pub struct Standing {
     pub a: Vote,
     pub b: bool,
 }
 
 // "Step 0: if fewer than n-f cards sent this card's a, a becomes none. b stays."
-fn step_0(recs: &[u16], col: Column, f: u32, c: u32, s: Stand) -> Stand
+fn step_0(recs: &[u16], col: Column, f: u32, c: u32, s: Standing) -> Standing
     requires { ⌜ (Within (length (now recs)) col) × (f < 256) ⌝ }
     ensures { λ r. ⌜ standing r ≡ step0 (col .n) f (votesIn c (now (recs .entry)) col) (standing s) ⌝ }
 {
@@ -27,18 +27,18 @@ fn step_0(recs: &[u16], col: Column, f: u32, c: u32, s: Stand) -> Stand
     } else {
         Vote::None
     };
-    Stand { a: kept, b: s.b }
+    Standing { a: kept, b: s.b }
 }
 
 // "Step 1: b becomes 1 if at least n-f cards sent this card's old a, else 0 .. a becomes the smallest count heard more than f
 // times, or none."
-fn step_1(recs: &[u16], col: Column, f: u32, c: u32, s: Stand) -> Stand
+fn step_1(recs: &[u16], col: Column, f: u32, c: u32, s: Standing) -> Standing
     requires { ⌜ (Within (length (now recs)) col) × (f < 256) × (c ≤ 65535) ⌝ }
     ensures { λ r. ⌜ standing r ≡ step1 (col .n) f c (votesIn c (now (recs .entry)) col) (standing s) ⌝ }
 {
     let a = s.a;
     let b = columns::sent_enough(recs, col, f as usize, c, a);
-    Stand {
+    Standing {
         a: columns::smallest_supported(recs, col, f as usize, c),
         b: b,
     }
@@ -61,18 +61,18 @@ fn obey(a: Vote, b: bool, king: Vote) -> Vote
 }
 
 // "Step 2: .. b becomes 1."
-fn step_2(king: Vote, s: Stand) -> Stand
+fn step_2(king: Vote, s: Standing) -> Standing
     ensures { λ r. ⌜ standing r ≡ step2 king (standing s) ⌝ }
 {
     let a = s.a;
-    Stand {
+    Standing {
         a: obey(a, s.b, king),
         b: true,
     }
 }
 
 // "d modulo 3 picks the step; the king is card d/3 (rounded down) of the group"
-pub fn three_steps(recs: &[u16], col: Column, f: u32, c: u32, d: u16, s: Stand) -> Stand
+pub fn three_steps(recs: &[u16], col: Column, f: u32, c: u32, d: u16, s: Standing) -> Standing
     requires { ⌜ (Within (length (now recs)) col) × (f < 256) × (c ≤ 65535) × (d / 3 < col .n) ⌝ }
     ensures { λ r. ⌜ standing r ≡ threeSteps (col .n) f c (votesIn c (now (recs .entry)) col) d (standing s) ⌝ }
 {

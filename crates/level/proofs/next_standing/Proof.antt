@@ -1,4 +1,4 @@
--- `level::next_stand` meets its contract.
+-- `level::next_standing` meets its contract.
 use borrow.Author.Needs.{needs}
 use native.Mathlib.Omega.{arith}
 use Prim.Native.Nat.{_/_, _<_}
@@ -11,8 +11,8 @@ use Rattle.steps.specs.Standings.{standing}
 use Rattle.level.proofs.Standings.{stand-is}
 use Rattle.level.proofs.Places.{split-place, column-within}
 use Rattle.level.proofs.Rows.{RowOf, row-is}
-use Rattle.level.proofs.next_stand.Statement.{statement}
-use Rattle.level.proofs.next_stand.Tie as tie
+use Rattle.level.proofs.next_standing.Statement.{statement}
+use Rattle.level.proofs.next_standing.Tie as tie
 
 row : (c : tie.Start) → RowOf (c .args .g .f) (c .args .row)
 row c = row-is (c .args .g .f) (c .args .row) (c .pre .0 .some) (c .pre .2)
@@ -38,8 +38,8 @@ returns c =
     (c .before .three-steps .ensures ∙ rw (c .before .before .column .ensures, own))
     (c .gain .ensures)
 
-pub next-stand-spec : {M : Type 1} → statement M
-next-stand-spec =
+pub next-standing-spec : {M : Type 1} → statement M
+next-standing-spec =
     tie.close
     (tie.spec
     (λ c κs. let r = row (c .before) in (r .t, omega (arith, r .t, c .before .pre .0 .fits .broken)))
