@@ -15,7 +15,7 @@ use Rattle.rules.specs.Groups.{keptWait, keptB, wordOf, bitOf}
 abbrev pub plusOne : ℕ → ℕ → ℕ
 plusOne c x = (x + 1) % c
 
--- How many of n cards sent the vote y. RULES 5.6: ""Heard j" counts the cards whose a reads j."
+-- How many of n cards sent the vote y. RULES 5.6: heard y "counts the cards whose a reads j"
 unfoldable pub sentBy : ℕ → (ℕ → Vote) → Vote → ℕ
 sentBy n heard y = countBelow n (λ (u : ℕ). same (heard u) y)
 
