@@ -2,7 +2,7 @@
 
 use std::fs;
 
-use crate::cooldown::{Cooldown, BOUGHT, RIGHT, TOO_SOON};
+use crate::cooldown::{Cooldown, HALF, RIGHT, TOO_SOON};
 use crate::picture::picture;
 use crate::report::{line, side_by_side, table, tried};
 use crate::strategy::STRATEGIES;
@@ -61,7 +61,7 @@ pub fn answer(arguments: &[&str]) -> Answer {
     })
 }
 
-/// The table of the runs by the paper's rules; late runs are errors.
+/// The table of the runs by the rules; late runs are errors.
 fn agreement(runs: u64) -> Answer {
     let survey = Survey::new(RIGHT, runs);
     Answer {
@@ -70,22 +70,22 @@ fn agreement(runs: u64) -> Answer {
     }
 }
 
-/// The search for a run that the bought routine's fault makes late; late runs are errors with
+/// The search for a run that a cooldown restarting at c1 makes late; late runs are errors with
 /// the right cooldown only.
 fn fault(runs: u64) -> Answer {
-    let surveys = [RIGHT, BOUGHT, TOO_SOON].map(|cooldown| Survey::new(cooldown, runs));
-    let [right, bought, too_soon] = &surveys;
+    let surveys = [RIGHT, HALF, TOO_SOON].map(|cooldown| Survey::new(cooldown, runs));
+    let [right, half, too_soon] = &surveys;
     Answer {
         output: format!(
-            "The cooldown restarts at {}, as in the paper; at {}, as in the bought routine; and \
-             at {},\nwhere the search has to find late runs, or it shows nothing of the others.\n\n\
+            "The cooldown restarts at {}, by the rules; at {}, which is half of it; and at {},\n\
+             where the search has to find late runs, or it shows nothing of the others.\n\n\
              {}\nlies: {}\n\n{}{}",
             right.cooldown.name,
-            bought.cooldown.name,
+            half.cooldown.name,
             too_soon.cooldown.name,
             side_by_side(&surveys),
             tried(right),
-            found(bought),
+            found(half),
             found(too_soon),
         ),
         errors: late_runs(right),
@@ -116,7 +116,7 @@ fn one_run(seed: u64, cooldown: Cooldown) -> String {
 }
 
 fn with_each_cooldown(seed: u64) -> Answer {
-    let cooldowns = [RIGHT, BOUGHT, TOO_SOON];
+    let cooldowns = [RIGHT, HALF, TOO_SOON];
     let runs: String = cooldowns.map(|cooldown| one_run(seed, cooldown)).concat();
     Answer::from(runs)
 }

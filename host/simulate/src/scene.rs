@@ -32,7 +32,7 @@ pub struct Scene {
     paths: Vec<Vec<Level>>,
     /// The newest table first. A broken card's record is what it would hold if it were sound.
     tables: VecDeque<Vec<u16>>,
-    /// What the broken cards told on the last beat, in the order of the paper's whole beat.
+    /// What the broken cards told on the last beat, in the order of a run file (RULES 6).
     told: Vec<u16>,
 }
 

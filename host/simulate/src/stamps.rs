@@ -33,7 +33,7 @@ pub fn lags(moved_in: fn(u64) -> i32) -> Vec<i32> {
     (0..RUNS).flat_map(lags_of).collect()
 }
 
-/// The bought routine's fault, put in by hand: in every second run the cards are a block apart.
+/// The comb, put in by hand: in every second run the cards are a block apart.
 pub fn block_apart(run: u64) -> i32 {
     [0, 1, 0, -1][(run % 4) as usize]
 }
