@@ -4,6 +4,7 @@
 
 pub mod command;
 pub mod cooldown;
+pub mod counter;
 pub mod directed;
 mod divide;
 pub mod level;
