@@ -1,23 +1,18 @@
 //! What the program answers to its arguments.
 
-use std::fs;
-
 use crate::cooldown::{Cooldown, HALF, RIGHT, TOO_SOON};
-use crate::picture::picture;
 use crate::report::{line, side_by_side, table, tried};
 use crate::strategy::STRATEGIES;
 use crate::survey::{late, Outcome, Survey};
 
 const RUNS: u64 = 2_000;
 
-/// The run that is drawn where none is asked for: the broken cards hold out long in it.
-pub const DRAWN: u64 = 1_634;
-
 /// How many late runs are told one by one, and for how many times T(f) they are watched.
 const TOLD: usize = 10;
 const LONG: usize = 10;
 
-const USAGE: &str = "\
+/// Of the launcher's command `simulate`: what `--svg` does is the package picture's.
+pub const USAGE: &str = "\
 usage: simulate [RUNS]                    how late the sound cards agree in RUNS runs
        simulate --fault cooldown [RUNS]   the same runs with wrong cooldowns beside
        simulate --seed SEED               one run with each cooldown
@@ -49,8 +44,6 @@ pub fn answer(arguments: &[&str]) -> Answer {
         ["--fault", "cooldown"] => Some(fault(RUNS)),
         ["--fault", "cooldown", runs] => number(runs).map(fault),
         ["--seed", seed] => number(seed).map(with_each_cooldown),
-        ["--svg", file] => Some(draw(file, DRAWN)),
-        ["--svg", file, "--seed", seed] => number(seed).map(|seed| draw(file, seed)),
         ["--lies"] => Some(lies()),
         [runs] => number(runs).map(agreement),
         _ => None,
@@ -119,17 +112,6 @@ fn with_each_cooldown(seed: u64) -> Answer {
     let cooldowns = [RIGHT, HALF, TOO_SOON];
     let runs: String = cooldowns.map(|cooldown| one_run(seed, cooldown)).concat();
     Answer::from(runs)
-}
-
-/// Draws a run by the paper's rules into a file, and tells it in one line.
-fn draw(file: &str, seed: u64) -> Answer {
-    match fs::write(file, picture(seed)) {
-        Ok(()) => Answer::from(format!("{}\n", line(&Outcome::of(seed, RIGHT, 1)))),
-        Err(error) => Answer {
-            errors: format!("simulate: {file} cannot be written: {error}\n"),
-            ..Answer::default()
-        },
-    }
 }
 
 fn lies() -> Answer {

@@ -20,5 +20,7 @@ pub const SECOND: Counter = Counter {
         card::step(n, f, c, card as u32, heard, &mut next).expect("a table is within the rules");
         next
     },
-    lag: |shape, one, other| lag(shape.c, one.into(), other.into()).expect("counts are below the modulus"),
+    lag: |shape, one, other| {
+        lag(shape.c, one.into(), other.into()).expect("counts are below the modulus")
+    },
 };
