@@ -137,7 +137,12 @@ fn print_record(shape: Shape, record: &[u16]) {
     let known = parameters(n, f).expect("a shape is not refused");
     let count = shown(n, f, c, record).expect("nor is its record");
     let bytes = hexadecimal(&bytes_of(record));
-    println!("record {f} {c} {} {} {bytes} {}", known.words, known.settled, write(count));
+    println!(
+        "record {f} {c} {} {} {bytes} {}",
+        known.words,
+        known.settled,
+        write(count)
+    );
 }
 
 fn number<T>(answer: Result<T, Refusal>) -> u8 {
