@@ -6,10 +6,9 @@
 //! Numbers are decimal. RECORDS are the bytes given, OUT and AFTER those of the output buffer before and after the call,
 //! in hexadecimal, a dash for none.
 
+use generate::calls::{Call, LagCall, StepBytesCall};
+use generate::{Random, Shape};
 use second::bytes::bytes_of;
-use second::generate::calls::{Call, LagCall, StepBytesCall};
-use second::generate::Shape;
-use second::random::Random;
 use second::refusal::Refusal;
 
 fn main() {

@@ -40,7 +40,8 @@ impl Definitions {
             }
         }
         let imports = imports.join(", ");
-        self.imports += &format!("use Rattle.rules.specs.{module}.{{{imports}}}\n");
+        let line = format!("use Rattle.rules.specs.{module}.{{{imports}}}\n");
+        self.imports += &line;
     }
 }
 

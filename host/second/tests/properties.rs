@@ -1,11 +1,10 @@
 //! What must hold for every input, tried on many generated ones.
 
+use generate::calls::{BeatCall, Call, StepBytesCall, StepCall};
+use generate::{Random, Shape};
 use second::card::{shown, step};
-use second::generate::calls::{BeatCall, Call, StepBytesCall, StepCall};
-use second::generate::Shape;
 use second::lag::lag;
 use second::params::parameters;
-use second::random::Random;
 use second::text::{read_record, write_record};
 
 /// How the paper reads one word of a card's record, and what may be written there.

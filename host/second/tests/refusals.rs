@@ -1,14 +1,14 @@
 //! Every refusal, alone and against every other, and exactly when the paper's table says.
 
-use second::beat::beat;
-use second::card::{shown, step};
-use second::generate::calls::{
+use generate::calls::{
     BeatCall, Call, LagCall, ParametersCall, ReadCall, ShownCall, StepBytesCall, StepCall,
     WriteCall,
 };
+use generate::Random;
+use second::beat::beat;
+use second::card::{shown, step};
 use second::lag::lag;
 use second::params::parameters;
-use second::random::Random;
 use second::refusal::Refusal;
 use second::text::{read_record, write_record};
 

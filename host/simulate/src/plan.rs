@@ -2,10 +2,9 @@
 
 use std::collections::BTreeSet;
 
+use generate::{Random, Shape};
 use second::count;
-use second::generate::Shape;
 use second::params;
-use second::random::Random;
 
 use crate::cooldown::Cooldown;
 use crate::directed::Directed;

@@ -3,9 +3,9 @@
 use std::collections::VecDeque;
 use std::ops::Range;
 
+use generate::Shape;
 use second::beat::is_broken;
 use second::card;
-use second::generate::Shape;
 
 use crate::cooldown::Cooldown;
 use crate::level::Level;

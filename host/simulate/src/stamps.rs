@@ -2,10 +2,9 @@
 //!
 //! A stamp is a card's count and the time within the block. Each card has its own jitter.
 
+use generate::{Random, Shape};
 use second::beat::is_broken;
-use second::generate::Shape;
 use second::lag::lag;
-use second::random::Random;
 
 use crate::cooldown::RIGHT;
 use crate::level::stepped;

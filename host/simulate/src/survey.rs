@@ -1,6 +1,6 @@
 //! Many runs, one for each seed from 0 on.
 
-use second::generate::Shape;
+use generate::Shape;
 
 use crate::cooldown::Cooldown;
 use crate::plan::Plan;

@@ -1,6 +1,6 @@
 //! A cooldown cut to its restart after each beat is a cooldown that restarts there.
 
-use second::generate::Shape;
+use generate::Shape;
 use second::params;
 use second::split;
 use simulate::cooldown::{BOUGHT, RIGHT, TOO_SOON};

@@ -1,7 +1,7 @@
 //! The proved lag against the paper's words and the second implementation.
 
-use second::generate::calls::{Call, LagCall};
-use second::random::Random;
+use generate::calls::{Call, LagCall};
+use generate::Random;
 
 /// "the number congruent to x - y modulo c that is above -c/2 and at most c/2", as it stands.
 fn is_the_lag(c: u32, x: u32, y: u32, lag: i32) -> bool {

@@ -1,8 +1,8 @@
 //! Every refusal, alone and against every other, exactly when the paper's table says; and a
 //! refused call changes nothing.
 
-use second::generate::calls::{Call, LagCall, StepBytesCall};
-use second::random::Random;
+use generate::calls::{Call, LagCall, StepBytesCall};
+use generate::Random;
 use tsendurkho::Refusal;
 
 /// The words in a record for each f, from the paper's table.

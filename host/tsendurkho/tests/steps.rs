@@ -1,9 +1,8 @@
 //! The proved step against the second implementation, on single tables and on whole runs.
 
+use generate::{Random, Shape};
 use second::beat::is_broken;
-use second::generate::Shape;
 use second::params;
-use second::random::Random;
 
 /// Tables for each n, f and c.
 const TABLES: usize = 40;

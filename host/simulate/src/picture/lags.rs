@@ -1,6 +1,6 @@
 //! The lags of two cards' stamps of the same events: the comb, and no comb.
 
-use second::generate::Shape;
+use generate::Shape;
 
 use crate::picture::scale::{horizontal, Scale};
 use crate::picture::svg::{group, heading, label, line, rect, wrapped, Drawing, Element};

@@ -2,15 +2,14 @@
 
 use std::fmt::Debug;
 
-use super::Shape;
-use crate::beat::beat;
-use crate::bytes::{self, bytes_of};
-use crate::card::{shown, step};
-use crate::lag::lag;
-use crate::params::{self, parameters, Parameters};
-use crate::random::Random;
-use crate::refusal::Refusal;
-use crate::text::{read_record, write_record, write_words};
+use crate::{Random, Shape};
+use second::beat::beat;
+use second::bytes::{self, bytes_of};
+use second::card::{shown, step};
+use second::lag::lag;
+use second::params::{self, parameters, Parameters};
+use second::refusal::Refusal;
+use second::text::{read_record, write_record, write_words};
 
 pub trait Call: Clone + Debug + PartialEq {
     /// What it answers when it succeeds, besides the buffer it fills.
@@ -35,7 +34,7 @@ pub trait Call: Clone + Debug + PartialEq {
     fn make(&mut self) -> Result<Self::Value, Refusal>;
 }
 
-#[derive(Clone, Debug, PartialEq)]
+#[derive(Clone, Debug, PartialEq, Eq)]
 pub struct ParametersCall {
     pub n: u32,
     pub f: u32,
@@ -63,7 +62,7 @@ impl Call for ParametersCall {
     }
 }
 
-#[derive(Clone, Debug, PartialEq)]
+#[derive(Clone, Debug, PartialEq, Eq)]
 pub struct StepCall {
     pub n: u32,
     pub f: u32,
@@ -114,7 +113,7 @@ impl Call for StepCall {
 }
 
 /// A step on byte slices.
-#[derive(Clone, Debug, PartialEq)]
+#[derive(Clone, Debug, PartialEq, Eq)]
 pub struct StepBytesCall {
     pub n: u32,
     pub f: u32,
@@ -163,7 +162,7 @@ impl Call for StepBytesCall {
     }
 }
 
-#[derive(Clone, Debug, PartialEq)]
+#[derive(Clone, Debug, PartialEq, Eq)]
 pub struct BeatCall {
     pub n: u32,
     pub f: u32,
@@ -221,7 +220,7 @@ impl Call for BeatCall {
     }
 }
 
-#[derive(Clone, Debug, PartialEq)]
+#[derive(Clone, Debug, PartialEq, Eq)]
 pub struct ShownCall {
     pub n: u32,
     pub f: u32,
@@ -262,7 +261,7 @@ impl Call for ShownCall {
     }
 }
 
-#[derive(Clone, Debug, PartialEq)]
+#[derive(Clone, Debug, PartialEq, Eq)]
 pub struct LagCall {
     pub c: u32,
     pub x: u32,
@@ -304,7 +303,7 @@ impl Call for LagCall {
 }
 
 /// Writing a record as text.
-#[derive(Clone, Debug, PartialEq)]
+#[derive(Clone, Debug, PartialEq, Eq)]
 pub struct WriteCall {
     pub n: u32,
     pub f: u32,
@@ -346,7 +345,7 @@ impl Call for WriteCall {
 }
 
 /// Reading a record from text.
-#[derive(Clone, Debug, PartialEq)]
+#[derive(Clone, Debug, PartialEq, Eq)]
 pub struct ReadCall {
     pub n: u32,
     pub f: u32,

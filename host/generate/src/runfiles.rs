@@ -1,10 +1,9 @@
 //! Run files, valid and damaged.
 
-use super::calls::no_digit;
-use super::Shape;
-use crate::random::Random;
-use crate::refusal::Refusal;
-use crate::text::write_words;
+use crate::calls::no_digit;
+use crate::{Random, Shape};
+use second::refusal::Refusal;
+use second::text::write_words;
 
 /// A valid run file, line by line, without the line feeds.
 #[derive(Clone, Debug)]

@@ -1,13 +1,10 @@
-//! Random inputs for tests: shapes, words, whole tables, broken cards and what they send.
+//! Shapes, and of each its words, whole tables, broken cards and what they send.
 
-pub mod calls;
-pub mod runfiles;
-
-use crate::beat::beat;
-use crate::count::NONE;
-use crate::params;
-use crate::random::Random;
-use crate::split;
+use crate::Random;
+use second::beat::beat;
+use second::count::NONE;
+use second::params;
+use second::split;
 
 /// n, f and c within the limits.
 #[derive(Clone, Copy, Debug, PartialEq, Eq)]
