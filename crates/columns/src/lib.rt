@@ -5,7 +5,7 @@ ghost use Prim.Native.Nat.{ℕ, _+_, _*_, _<_, _≤_};
 ghost use lib.Dec.{ltb};
 ghost use lib.ListN.{length};
 ghost use Rattle.rules.specs.Counting.{countBelow};
-ghost use Rattle.rules.specs.Groups.{readVote};
+ghost use Rattle.rules.specs.Groups.{readVote, wordOf};
 ghost use Rattle.rules.specs.OneBeat.{enough, sentBy, mostFrequent, vote, supported};
 ghost use Rattle.columns.specs.Columns.{Within, wordIn, votesIn, lies, leader};
 
@@ -39,6 +39,16 @@ pub fn read_vote(m: u32, word: u16) -> Vote
         Vote::Count(word)
     } else {
         Vote::None
+    }
+}
+
+// The word that a count or none is kept and sent as; `read_vote` reads it back.
+pub fn word_of(v: Vote) -> u16
+    ensures { λ r. ⌜ r ≡ wordOf v ⌝ }
+{
+    match v {
+        Vote::Count(x) => x,
+        Vote::None => 65535,
     }
 }
 

@@ -9,7 +9,7 @@ ghost use Prim.Native.Nat.{ℕ, _+_, _<_, _≤_, min};
 ghost use lib.ListN.{length};
 ghost use lib.Seq.{sets};
 ghost use Rattle.rules.specs.Parameters.{turn};
-ghost use Rattle.rules.specs.Groups.{halfModulus, halfOf, outputOf, wordOf, bitOf};
+ghost use Rattle.rules.specs.Groups.{halfModulus, halfOf, outputOf, bitOf};
 ghost use Rattle.rules.specs.OneBeat.{mostFrequent, cooldown, trusted, phase, nextVote, nextStanding};
 ghost use Rattle.params.specs.Answers.{rowRead};
 ghost use Rattle.level.specs.Groups.{Fits, Split, heardBy};
@@ -192,15 +192,6 @@ pub fn next_level(recs: &[u16], g: Group, card: usize, row: Row) -> Level
     }
 }
 
-fn word_of(v: Vote) -> u16
-    ensures { λ r. ⌜ r ≡ wordOf v ⌝ }
-{
-    match v {
-        Vote::Count(x) => x,
-        Vote::None => 65535,
-    }
-}
-
 fn bit_of(b: bool) -> u16
     ensures { λ r. ⌜ r ≡ bitOf b ⌝ }
 {
@@ -217,10 +208,10 @@ pub fn put_level(out: &mut [u16], base: usize, l: Level)
     let a = l.a;
     out[base] = l.m0;
     out[base + 1] = l.m1;
-    out[base + 2] = word_of(vote0);
-    out[base + 3] = word_of(vote1);
+    out[base + 2] = columns::word_of(vote0);
+    out[base + 3] = columns::word_of(vote1);
     out[base + 4] = l.wait0;
     out[base + 5] = l.wait1;
-    out[base + 6] = word_of(a);
+    out[base + 6] = columns::word_of(a);
     out[base + 7] = bit_of(l.b);
 }
