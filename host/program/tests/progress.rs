@@ -4,11 +4,10 @@ use std::fs;
 use std::path::{Path, PathBuf};
 use std::process::{Command, Output, Stdio};
 
-use program::root;
+use program::{launcher, wanted};
 use second::generate::runfiles::RunFile;
 use second::generate::Shape;
 use second::random::Random;
-use second::runfile::run;
 
 /// What ends the progress line: back to its start, and all erased.
 const ERASED: &[u8] = b"\r\x1b[K";
@@ -19,9 +18,7 @@ fn run_file(name: &str, beats: usize) -> (PathBuf, Vec<u8>) {
     let text = RunFile::of_length(&mut Random::new(107), shape, 0b11111, beats).text();
     let path = Path::new(env!("CARGO_TARGET_TMPDIR")).join(name);
     fs::write(&path, &text).expect("the run file can be written");
-    let mut printed = Vec::new();
-    run(&text[..], &mut printed).expect("a vector takes all");
-    (path, printed)
+    (path, wanted(&text))
 }
 
 fn finished(command: &mut Command) -> Output {
@@ -32,7 +29,7 @@ fn finished(command: &mut Command) -> Output {
 
 /// All that a terminal receives from the launcher, which has it for both outputs.
 fn on_terminal(path: &Path) -> Vec<u8> {
-    let run = format!("'{}' run '{}'", root().join("tsendurkho").display(), path.display());
+    let run = format!("'{}' run '{}'", launcher().display(), path.display());
     let script = ["--quiet", "--return", "--command", &run, "/dev/null"];
     finished(Command::new("script").args(script)).stdout
 }
@@ -53,7 +50,7 @@ fn progress(received: &[u8]) -> Option<u32> {
 fn nothing_is_said_where_there_is_no_terminal() {
     let (path, printed) = run_file("long-no-terminal.txt", 150);
     assert!(fs::metadata(&path).unwrap().len() > 1_000_000);
-    let output = finished(Command::new(root().join("tsendurkho")).arg("run").arg(path));
+    let output = finished(Command::new(launcher()).arg("run").arg(path));
     assert!(output.stdout == printed);
     assert_eq!(output.stderr, b"");
 }
