@@ -8,10 +8,9 @@ use std::os::unix::net::{UnixDatagram, UnixStream};
 use std::process::{Child, Command, ExitStatus, Output, Stdio};
 use std::thread;
 
+use generate::runfiles::RunFile;
+use generate::{Random, Shape};
 use program::{launcher, parts, refusal_in, root, scratch, send, wanted};
-use second::generate::runfiles::RunFile;
-use second::generate::Shape;
-use second::random::Random;
 
 const UNREAD: &str = "blockrun: the input could not be read\n";
 const UNWRITTEN: &str = "blockrun: the output could not be written\n";
@@ -187,7 +186,10 @@ fn states(group: u32) -> Vec<String> {
 fn wait_until_all(state: &str, group: u32) {
     let mut found = states(group);
     while found.iter().any(|other| other != state) {
-        assert!(found.iter().any(|other| other != "Z"), "the launcher has ended");
+        assert!(
+            found.iter().any(|other| other != "Z"),
+            "the launcher has ended"
+        );
         thread::yield_now();
         found = states(group);
     }

@@ -4,17 +4,20 @@ use std::fs;
 use std::path::{Path, PathBuf};
 use std::process::{Command, Output, Stdio};
 
+use generate::runfiles::RunFile;
+use generate::{Random, Shape};
 use program::{launcher, wanted};
-use second::generate::runfiles::RunFile;
-use second::generate::Shape;
-use second::random::Random;
 
 /// What ends the progress line: back to its start, and all erased.
 const ERASED: &[u8] = b"\r\x1b[K";
 
 /// A run file of so many beats of about 8,000 bytes each, and what it prints.
 fn run_file(name: &str, beats: usize) -> (PathBuf, Vec<u8>) {
-    let shape = Shape { n: 16, f: 5, c: 65_535 };
+    let shape = Shape {
+        n: 16,
+        f: 5,
+        c: 65_535,
+    };
     let text = RunFile::of_length(&mut Random::new(107), shape, 0b11111, beats).text();
     let path = Path::new(env!("CARGO_TARGET_TMPDIR")).join(name);
     fs::write(&path, &text).expect("the run file can be written");

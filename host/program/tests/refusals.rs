@@ -5,10 +5,9 @@ use std::fs;
 use std::path::PathBuf;
 use std::process::{Command, Output, Stdio};
 
+use generate::runfiles::{damaged, Damage, RunFile};
+use generate::{Random, Shape};
 use program::{launched, launcher, parts, refusal_in, scratch, wanted, word};
-use second::generate::runfiles::{damaged, Damage, RunFile};
-use second::generate::Shape;
-use second::random::Random;
 
 /// Two cards without a broken one, and their start.
 const HEADER: &str = "020000030000\n";
