@@ -72,7 +72,7 @@ fn spoil<C: Call>(call: &mut C, random: &mut Random) {
 
 impl Defined for ParametersCall {
     fn refusal(&self) -> String {
-        apply("paramsRefusal", &[&self.n, &self.f])
+        apply("shapeRefusal", &[&self.n, &self.f, &0])
     }
 
     fn answer(&self) -> String {

@@ -1,19 +1,19 @@
--- `frames::frame::start_refusal` meets its contract.
+-- `frames::frame::start_line_refusal` meets its contract.
 use borrow.Author.Needs.{needs}
 use mathlib.Core.Path.{_∙_}
 use native.Mathlib.Omega.{arith}
-use Rattle.rules.specs.RunFile.{startRefusal}
+use Rattle.rules.specs.RunFile.{startLineRefusal}
 use Rattle.frames.specs.Headers.{said}
 use Rattle.frames.proofs.Headers.{start-most}
-use Rattle.frames.proofs.frame.start_refusal.Statement.{statement}
-use Rattle.frames.proofs.frame.start_refusal.Tie as tie
+use Rattle.frames.proofs.frame.start_line_refusal.Statement.{statement}
+use Rattle.frames.proofs.frame.start_line_refusal.Tie as tie
 
 returns : tie.Need-returns
-unfolding startRefusal
+unfolding startLineRefusal
 returns c = c .frame-refusal .ensures ∙ rw (c .before .start-words .ensures)
 
-pub start-refusal-spec : {M : Type 1} → statement M
-start-refusal-spec =
+pub start-line-refusal-spec : {M : Type 1} → statement M
+start-line-refusal-spec =
     tie.close
     (tie.spec
     (λ c κs. search needs)

@@ -1,12 +1,12 @@
--- `frames::output::word_of` meets its contract, case by case.
+-- `columns::word_of` meets its contract, case by case.
 use borrow.Author.Needs.{needs}
 use Rattle.rules.specs.Groups.{wordOf}
-use Rattle.frames.proofs.output.word_of.Statement.{statement}
-use Rattle.frames.proofs.output.word_of.Tie as tie
+use Rattle.columns.proofs.word_of.Statement.{statement}
+use Rattle.columns.proofs.word_of.Tie as tie
 
 count : tie.Need-returns
 unfolding wordOf
-count c = rw (c .before .count .given .1)
+count c = rw (c .before .v .given .1)
 
 none : tie.Need-returns-2
 unfolding wordOf
