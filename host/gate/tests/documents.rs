@@ -107,7 +107,7 @@ fn comments(source: &str) -> Vec<String> {
             .strip_prefix("-- ")
             .or_else(|| line.strip_prefix("// "));
         match comment {
-            Some(text) => *comments.last_mut().expect("the first") += &format!("{text} "),
+            Some(text) => comments.last_mut().expect("the first").extend([text, " "]),
             None => comments.push(String::new()),
         }
     }
@@ -144,12 +144,9 @@ fn names(cell: &str) -> impl Iterator<Item = &str> {
 /// The rows of a table with so many columns, without its head.
 fn rows(text: &str, columns: usize) -> Vec<Vec<String>> {
     let lines = text.lines().filter(|line| line.starts_with("| "));
-    let cells = lines.map(|line| line.trim_matches('|').split('|').map(plain).collect());
-    let rows: Vec<Vec<String>> = cells.collect();
-    rows.into_iter()
-        .filter(|row| row.len() == columns)
-        .skip(1)
-        .collect()
+    let cells = lines.map(|line| line.trim_matches('|').split('|').map(plain));
+    let rows = cells.map(Iterator::collect::<Vec<String>>);
+    rows.filter(|row| row.len() == columns).skip(1).collect()
 }
 
 /// The name that a line of a file of definitions declares.
@@ -266,7 +263,7 @@ fn the_table_of_the_rules_is_the_formulas() {
         let found = parameters(3 * f + 1, f).expect("n = 3f + 1 is allowed");
         let numbers = [found.t, found.c0, found.c1, found.restart].map(usize::from);
         assert_eq!([1, 2, 3, 4].map(cell), numbers, "f = {f}");
-        let sizes = [usize::from(found.words), usize::from(found.settled)];
+        let sizes = [found.words, found.settled];
         assert_eq!([cell(5), cell(6)], sizes, "f = {f}");
     }
 }
