@@ -25,7 +25,7 @@ provide() { # PRODUCT...
 }
 
 make_one() { # PRODUCT
-    command -v rt >/dev/null || fail "to build $(name_of "$1") takes the Rattle kit: rt is not on the PATH"
+    command -v rt >/dev/null || fail "$(name_of "$1") is proved and built by the Rattle kit, and rt is not on the PATH"
     wait_for_others
     if ! is_made "$1"; then
         announce "proving $(name_of "$1"), $(expected_time)"

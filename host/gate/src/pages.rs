@@ -74,10 +74,7 @@ pub fn names(cell: &str) -> impl Iterator<Item = &str> {
 /// The rows of a table with so many columns, without its head.
 pub fn rows(text: &str, columns: usize) -> Vec<Vec<String>> {
     let lines = text.lines().filter(|line| line.starts_with("| "));
-    let cells = lines.map(|line| line.trim_matches('|').split('|').map(plain).collect());
-    let rows: Vec<Vec<String>> = cells.collect();
-    rows.into_iter()
-        .filter(|row| row.len() == columns)
-        .skip(1)
-        .collect()
+    let cells = lines.map(|line| line.trim_matches('|').split('|').map(plain));
+    let rows = cells.map(Iterator::collect::<Vec<String>>);
+    rows.filter(|row| row.len() == columns).skip(1).collect()
 }
