@@ -9,13 +9,13 @@ use lib.ListN.{length, getD}
 use borrow.Author.Tests.{lt-leb, eq-eqb}
 use Rattle.rules.specs.Counting.{rows, tabulate}
 use Rattle.rules.specs.Parameters.{recordWords}
-use Rattle.rules.specs.Refusals.{shapeRefusal, stepBytesRefusal}
+use Rattle.rules.specs.Refusals.{counterRefusal, stepBytesRefusal}
 use Rattle.rules.specs.Calls.{stepBytesOut}
 use Rattle.rules.proofs.Lists.{rows-length, rows-at, tabulate-length, tabulate-at}
 use Rattle.rules.proofs.Shapes.{counter-passed}
 use Rattle.end_to_end.specs.OnBytes.{recordBytes, ByteRun, RunsFromAnyStart}
 
-module _ (n f c : ℕ) (sound : ℕ → Bool) (good : shapeRefusal n f c 0 ≡ 0) (start : ℕ → List ℕ) (told : ℕ → ℕ → ℕ → List ℕ) where
+module _ (n f c : ℕ) (sound : ℕ → Bool) (good : counterRefusal n f c 0 ≡ 0) (start : ℕ → List ℕ) (told : ℕ → ℕ → ℕ → List ℕ) where
   -- the n records that a card hears, of what the sound ones hold and the broken ones tell it
   record-of : (ℕ → List ℕ) → (ℕ → List ℕ) → ℕ → List ℕ
   record-of held lies u = tabulate (recordBytes f) (λ j. getD (cond (sound u) (held u) (lies u)) j 0)

@@ -13,9 +13,9 @@ use lib.ListN.{length, getD}
 use Rattle.rules.specs.Parameters.{noneWord, settleBeats}
 use Rattle.rules.specs.Groups.{wordOf}
 use Rattle.rules.specs.WholeBeat.{badSet}
-use Rattle.rules.specs.Refusals.{given, shapeRefusal, beatRefusal as wholeBeatRefusal}
+use Rattle.rules.specs.Refusals.{given, counterRefusal, beatRefusal}
 use Rattle.rules.specs.Text.{wellFormed, wordsAt, linesOf}
-use Rattle.rules.specs.RunFile.{Header, headerDigits, headerOf, headerRefusal, startWords, beatWords, lastBeat, beatOf, startRefusal, beatRefusal, shownWord, outputLine, refusalLine, Run, atHeader, atStart, atBeat, accepted, orRefused, takeLine, atEnd, continued, runLines, runText}
+use Rattle.rules.specs.RunFile.{Header, headerTests, headerDigits, headerOf, headerRefusal, startWords, beatWords, lastBeat, beatOf, startLineRefusal, beatLineRefusal, shownWord, outputLine, refusalLine, Stage, atHeader, atStart, atBeat, accepted, orRefused, takeLine, atEnd, continued, runLines, runText}
 use Rattle.rules.proofs.Tests.{decided, never}
 use Rattle.rules.proofs.Shapes.{not-given, counter-accepted}
 use Rattle.rules.proofs.Lines.{no-lines, line-at}
@@ -39,13 +39,13 @@ module _ (h : Header) (line : ℕ → List ℕ) where
   table = tableAt (h .n) (h .f) (h .c) (h .set) start sent
 
   -- where the run stands before the line of a beat, and what that line is refused for
-  unfoldable before : ℕ → Run
+  unfoldable before : ℕ → Stage
   before zero = atStart h
   before (suc b) = atBeat h b (table b)
 
   unfoldable refusalOn : ℕ → ℕ
-  refusalOn zero = startRefusal h (line 0)
-  refusalOn (suc b) = beatRefusal h b (line (suc b))
+  refusalOn zero = startLineRefusal h (line 0)
+  refusalOn (suc b) = beatLineRefusal h b (line (suc b))
 
   -- the line is taken as the rules say
   taken : (b : ℕ) → takeLine (before b) (line b) ≡ orRefused (refusalOn b) (accepted (before (suc b)) (outputLine h b (table b)))
@@ -104,8 +104,8 @@ module _ (h : Header) (line : ℕ → List ℕ) where
       (decided (eqb (refusalOn b) 0))
 
   -- a header that passes its tests: every beat is accepted, and the counts settle
-  module _ (tests : shapeRefusal (h .n) (h .f) (h .c) (given 7 (badSet (h .n) (h .f) (h .set)) 0) ≡ 0) where
-    beats-accepted : (r : ℕ) → wholeBeatRefusal (h .n) (h .f) (h .c) (h .set) (length start) (length (sent r)) (length start) ≡ 0
+  module _ (tests : headerTests h ≡ 0) where
+    beats-accepted : (r : ℕ) → beatRefusal (h .n) (h .f) (h .c) (h .set) (length start) (length (sent r)) (length start) ≡ 0
     unfolding start sent
     beats-accepted r =
         beat-passed h tests _ _ _ (words-length (line 0) 4 (startWords h)) (words-length (line (suc r)) 4 (beatWords h)) (words-length (line 0) 4 (startWords h))
@@ -139,7 +139,7 @@ file-output (l ∷ left) e =
     (length left, omega arith, rw e (output (headerOf l) (λ b. getD (l ∷ left) (suc b) []) 0 2 left (λ i li. rw (zero-add i))))
 
 header-tests : (line : List ℕ) → headerRefusal line ≡ 0
-    → let h = headerOf line in shapeRefusal (h .n) (h .f) (h .c) (given 7 (badSet (h .n) (h .f) (h .set)) 0) ≡ 0
+    → headerTests (headerOf line) ≡ 0
 unfolding headerRefusal
 header-tests line e = not-given 10 (not (wellFormed headerDigits line)) _ (omega arith) e .1
 

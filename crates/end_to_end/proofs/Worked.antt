@@ -6,12 +6,12 @@ use Rattle.rules.specs.Counting.{countBelow, rows}
 use Rattle.rules.specs.Parameters.{digitsIn, binaryDigits}
 use Rattle.rules.specs.WholeBeat.{isBroken, brokenBelow, badSet}
 use Rattle.rules.specs.Text.{digitOf, isDigit, valueOf, hexOf, numberAt, allDigits, wellFormed, oneMore, inFront, linesOf}
-use Rattle.rules.specs.RunFile.{headerOf, headerRefusal, startRefusal, beatRefusal, orRefused, takeLine}
+use Rattle.rules.specs.RunFile.{headerOf, headerRefusal, startLineRefusal, beatLineRefusal, orRefused, takeLine}
 use Rattle.rules.specs.ByHand.{line, opening}
 use Rattle.end_to_end.specs.RunFiles.{andOthers, mayEnd, acceptedFrom, acceptedFile}
 
 pub worked-accepted :
     (acceptedFile (opening ++ line 4 1 ++ line 4 2) ≡ true)
     × (acceptedFile (opening ++ line 4 2 ++ line 4 2) ≡ false)
-unfolding countBelow rows digitsIn binaryDigits isBroken brokenBelow badSet digitOf isDigit valueOf hexOf numberAt allDigits wellFormed oneMore inFront linesOf headerOf headerRefusal startRefusal beatRefusal orRefused takeLine andOthers mayEnd acceptedFrom acceptedFile
+unfolding countBelow rows digitsIn binaryDigits isBroken brokenBelow badSet digitOf isDigit valueOf hexOf numberAt allDigits wellFormed oneMore inFront linesOf headerOf headerRefusal startLineRefusal beatLineRefusal orRefused takeLine andOthers mayEnd acceptedFrom acceptedFile
 worked-accepted = (refl, refl)

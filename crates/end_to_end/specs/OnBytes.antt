@@ -9,7 +9,7 @@ use Rattle.rules.specs.Parameters.{recordWords, settleBeats}
 use Rattle.rules.specs.Groups.{outputPlace}
 use Rattle.rules.specs.OneBeat.{shownCount}
 use Rattle.rules.specs.Bytes.{wordAt}
-use Rattle.rules.specs.Refusals.{shapeRefusal, stepBytesRefusal}
+use Rattle.rules.specs.Refusals.{counterRefusal, stepBytesRefusal}
 use Rattle.rules.specs.Calls.{stepBytesOut}
 use Rattle.settle.specs.Run.{Cards}
 
@@ -50,7 +50,7 @@ SettlesOnBytes =
 -- hears of the broken card u after r beats
 abbrev pub RunsFromAnyStart : Type 0
 RunsFromAnyStart =
-    (n f c : ℕ) (sound : ℕ → Bool) → shapeRefusal n f c 0 ≡ 0 → (start : ℕ → List ℕ) (told : ℕ → ℕ → ℕ → List ℕ)
+    (n f c : ℕ) (sound : ℕ → Bool) → counterRefusal n f c 0 ≡ 0 → (start : ℕ → List ℕ) (told : ℕ → ℕ → ℕ → List ℕ)
     → (R : ByteRun n f c sound)
     × ((v : ℕ) → R .holds 0 v ≡ start v)
     × ((r v u j : ℕ) → u < n → sound u ≡ false → j < recordBytes f → getD (R .hears r v) (u * recordBytes f + j) 0 ≡ getD (told r v u) j 0)

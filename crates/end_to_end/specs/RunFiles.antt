@@ -7,7 +7,7 @@ use lib.ListN.{length, getD}
 use Rattle.rules.specs.Parameters.{noneWord, settleBeats}
 use Rattle.rules.specs.WholeBeat.{isBroken}
 use Rattle.rules.specs.Text.{numberAt, wellFormed, linesOf, lineAt}
-use Rattle.rules.specs.RunFile.{Header, headerOf, headerRefusal, frameDigits, beatOf, Run, atHeader, atStart, atBeat, Taken, accepted, refused, takeLine, runText}
+use Rattle.rules.specs.RunFile.{Header, headerOf, headerRefusal, frameDigits, beatOf, Stage, atHeader, atStart, atBeat, Taken, accepted, refused, takeLine, runText}
 
 -- what line 1 says
 abbrev pub header : List ℕ → Header
@@ -48,19 +48,19 @@ SettlesInFiles =
     → (beatOf (lineOn text (settledBeat text k)) ≡ noneWord → ⊥) → Counts text x k)
 
 -- the line is accepted, and so are the others
-unfoldable pub andOthers : Taken → (Run → Bool) → Bool
-andOthers (accepted run written) others = others run
+unfoldable pub andOthers : Taken → (Stage → Bool) → Bool
+andOthers (accepted stage written) others = others stage
 andOthers (refused refusal) others = false
 
 -- "If line 1 or 2 is missing, its number is given with 10."; "An end after line 2 is good."
-unfoldable pub mayEnd : Run → Bool
+unfoldable pub mayEnd : Stage → Bool
 mayEnd atHeader = false
 mayEnd (atStart h) = false
 mayEnd (atBeat h beat table) = true
 
-unfoldable pub acceptedFrom : List (List ℕ) → Run → Bool
-acceptedFrom [] run = mayEnd run
-acceptedFrom (line ∷ others) run = andOthers (takeLine run line) (acceptedFrom others)
+unfoldable pub acceptedFrom : List (List ℕ) → Stage → Bool
+acceptedFrom [] stage = mayEnd stage
+acceptedFrom (line ∷ others) stage = andOthers (takeLine stage line) (acceptedFrom others)
 
 -- a run file that is accepted to its end: lines 1 and 2 are there, and no line is refused
 unfoldable pub acceptedFile : List ℕ → Bool

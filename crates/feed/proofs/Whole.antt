@@ -9,72 +9,72 @@ use lib.Dec.{eqb}
 use lib.ListN.{length, take, drop, take-append-drop, drop-of-length-le}
 use lib.Seq.{sets, drop-drop, drop-length}
 use Rattle.rules.specs.Text.{lineFeed}
-use Rattle.rules.specs.RunFile.{Run, atEnd, Taken, accepted, refused, refusalLine, runText}
+use Rattle.rules.specs.RunFile.{Stage, atEnd, Taken, accepted, refused, refusalLine, runText}
 use Rattle.rules.proofs.Tests.{decided, le-or-lt}
-use Rattle.runfile.specs.declared.Run.the-variants.{AtHeader}
-use Rattle.runfile.specs.Runs.{standing, takenLine}
+use Rattle.runfile.specs.declared.Stage.the-variants.{AtHeader}
+use Rattle.runfile.specs.Runs.{stageOf, takenLine}
 use Rattle.runfile.proofs.Stores.{first-taken}
-use Rattle.feed.specs.declared.Feed.{Feed as Kept}
+use Rattle.feed.specs.declared.Feed.{Feed}
 use Rattle.feed.specs.declared.Feed.the-variants.{Reading, Stopped}
 use Rattle.feed.specs.declared.Fed.{Fed}
-use Rattle.feed.specs.Feeds.{lineOf, Feed, reading, stopped, afterLine, ended, fedByte, fed, lastFed, allWritten, finished, start, joined}
-use Rattle.feed.specs.Calls.{feedOf, writtenBy, goingOn, placeIn, nextOf, lineEnd, partFrom, mostWritten, Feeds, CallsWrite, feeds, turns, leaves, finishes, FeedsAll, Reached}
+use Rattle.feed.specs.Feeds.{lineOf, Machine, reading, stopped, afterLine, ended, fedByte, fed, lastFed, allWritten, finished, start, joined}
+use Rattle.feed.specs.Calls.{machineOf, writtenBy, goingOn, placeIn, nextOf, lineEnd, partFrom, mostWritten, Feeds, CallsWrite, feeds, turns, leaves, finishes, FeedsAll, Reached}
 use Rattle.feed.proofs.Pieces.{fed-append, fed-stopped, fed-all, nothing-fed}
 
 -- some text was written before
-unfoldable wrote : List ℕ → Feed → Feed
-wrote before (reading run held written) = reading run held (before ++ written)
+unfoldable wrote : List ℕ → Machine → Machine
+wrote before (reading stage held written) = reading stage held (before ++ written)
 wrote before (stopped written) = stopped (before ++ written)
 
-after-wrote : (before written : List ℕ) (run : Run) (t : Taken) → afterLine run (before ++ written) t ≡ wrote before (afterLine run written t)
+after-wrote : (before written : List ℕ) (stage : Stage) (t : Taken) → afterLine stage (before ++ written) t ≡ wrote before (afterLine stage written t)
 unfolding afterLine wrote
-after-wrote before written run (accepted next text) = rw (append-assoc before written text)
-after-wrote before written run (refused refusal) = rw (append-assoc before written (refusalLine (lineOf run) refusal))
+after-wrote before written stage (accepted next text) = rw (append-assoc before written text)
+after-wrote before written stage (refused refusal) = rw (append-assoc before written (refusalLine (lineOf stage) refusal))
 
-byte-wrote : (before : List ℕ) (feed : Feed) (ch : ℕ) → fedByte (wrote before feed) ch ≡ wrote before (fedByte feed ch)
+byte-wrote : (before : List ℕ) (feed : Machine) (ch : ℕ) → fedByte (wrote before feed) ch ≡ wrote before (fedByte feed ch)
 unfolding fedByte wrote ended
-byte-wrote before (reading run held written) ch = ⊎-elim
-    (λ (z : eqb ch lineFeed ≡ true). rw z (after-wrote before written run (takenLine run held)))
+byte-wrote before (reading stage held written) ch = ⊎-elim
+    (λ (z : eqb ch lineFeed ≡ true). rw z (after-wrote before written stage (takenLine stage held)))
     (λ (z : eqb ch lineFeed ≡ false). rw z)
     (decided (eqb ch lineFeed))
 byte-wrote before (stopped written) ch = refl
 
-fed-wrote : (before : List ℕ) (feed : Feed) (text : List ℕ) → fed (wrote before feed) text ≡ wrote before (fed feed text)
+fed-wrote : (before : List ℕ) (feed : Machine) (text : List ℕ) → fed (wrote before feed) text ≡ wrote before (fed feed text)
 unfolding fed
 fed-wrote before feed [] = refl
 fed-wrote before feed (ch ∷ text) = rw (byte-wrote before feed ch) (fed-wrote before (fedByte feed ch) text)
 
-all-wrote : (before : List ℕ) (feed : Feed) → allWritten (wrote before feed) ≡ before ++ allWritten feed
+all-wrote : (before : List ℕ) (feed : Machine) → allWritten (wrote before feed) ≡ before ++ allWritten feed
 unfolding allWritten wrote
-all-wrote before (reading run held written) = append-assoc before written (atEnd (lineOf run) run)
+all-wrote before (reading stage held written) = append-assoc before written (atEnd (lineOf stage) stage)
 all-wrote before (stopped written) = refl
 
-last-wrote : (before : List ℕ) (feed : Feed) → lastFed (wrote before feed) ≡ wrote before (lastFed feed)
+last-wrote : (before : List ℕ) (feed : Machine) → lastFed (wrote before feed) ≡ wrote before (lastFed feed)
 unfolding lastFed wrote ended
-last-wrote before (reading run [] written) = refl
-last-wrote before (reading run (ch ∷ held) written) = after-wrote before written run (takenLine run (ch ∷ held))
+last-wrote before (reading stage [] written) = refl
+last-wrote before (reading stage (ch ∷ held) written) = after-wrote before written stage (takenLine stage (ch ∷ held))
 last-wrote before (stopped written) = refl
 
-finished-wrote : (before : List ℕ) (feed : Feed) → finished (wrote before feed) ≡ before ++ finished feed
+finished-wrote : (before : List ℕ) (feed : Machine) → finished (wrote before feed) ≡ before ++ finished feed
 unfolding finished
 finished-wrote before feed = ap allWritten (last-wrote before feed) ∙ all-wrote before (lastFed feed)
 
 -- a machine is what it goes on with, after what it has written
-written-before : (feed : Feed) → wrote (writtenBy feed) (goingOn feed) ≡ feed
+written-before : (feed : Machine) → wrote (writtenBy feed) (goingOn feed) ≡ feed
 unfolding wrote writtenBy goingOn
-written-before (reading run held written) = rw (append-nil written)
+written-before (reading stage held written) = rw (append-nil written)
 written-before (stopped written) = rw (append-nil written)
 
 -- one part, and then the rest
-one-part : (feed : Feed) (part rest : List ℕ) → writtenBy (fed feed part) ++ finished (fed (goingOn (fed feed part)) rest) ≡ finished (fed feed (part ++ rest))
+one-part : (feed : Machine) (part rest : List ℕ) → writtenBy (fed feed part) ++ finished (fed (goingOn (fed feed part)) rest) ≡ finished (fed feed (part ++ rest))
 one-part feed part rest =
     let m = fed feed part in
     sym (finished-wrote (writtenBy m) (fed (goingOn m) rest))
-    ∙ ap finished (sym (fed-wrote (writtenBy m) (goingOn m) rest) ∙ ap (λ (f : Feed). fed f rest) (written-before m) ∙ sym (fed-append feed part rest))
+    ∙ ap finished (sym (fed-wrote (writtenBy m) (goingOn m) rest) ∙ ap (λ (f : Machine). fed f rest) (written-before m) ∙ sym (fed-append feed part rest))
 
 -- where the calls start
-starts : (line table : List ℕ) → feedOf (Reading AtHeader 0) line table ≡ start
-unfolding feedOf standing
+starts : (line table : List ℕ) → machineOf (Reading AtHeader 0) line table ≡ start
+unfolding machineOf stageOf
 starts line table = refl
 
 -- a place behind a piece counts as its end
@@ -106,8 +106,8 @@ all-left [] = refl
 all-left (piece ∷ others) = refl
 
 -- a stopped run writes nothing, whatever comes
-still-stopped : (line table text : List ℕ) → fed (feedOf Stopped line table) text ≡ feedOf Stopped line table
-unfolding feedOf
+still-stopped : (line table text : List ℕ) → fed (machineOf Stopped line table) text ≡ machineOf Stopped line table
+unfolding machineOf
 still-stopped line table text = fed-stopped [] text
 
 -- what a call writes stands in its buffer
@@ -116,11 +116,11 @@ text-in : (out outNext text : List ℕ) (written : ℕ) → length out ≡ mostW
 text-in out outNext text written size e short o = rw o (first-taken out text written (sym e) (omega arith))
 
 -- the calls to the end of the input write what the machine does that is fed all that is left
-calls-whole : {feed : Kept} {line table : List ℕ} {at : ℕ} {pieces : List (List ℕ)} {text : List ℕ}
-    → CallsWrite feed line table at pieces text → text ≡ finished (fed (feedOf feed line table) (leftOf at pieces))
+calls-whole : {feed : Feed} {line table : List ℕ} {at : ℕ} {pieces : List (List ℕ)} {text : List ℕ}
+    → CallsWrite feed line table at pieces text → text ≡ finished (fed (machineOf feed line table) (leftOf at pieces))
 unfolding leftOf
 calls-whole (feeds {feed = feed} {piece = piece} {line = line} {table = table} {out = out} {outNext = outNext} {at = at} {others = others} {r = r} size f later) =
-    let m = feedOf feed line table in
+    let m = machineOf feed line table in
     let part = partFrom piece at in
     rw (text-in out outNext (writtenBy (fed m part)) (r .written) size (f .stands .written-is) (f .stands .short) (f .stands .text), calls-whole later, f .next, f .stands .goes-on)
     (one-part m part (drop (nextOf piece (lineEnd piece at)) piece ++ joined others) ∙ rw (← append-assoc, part-and-rest piece at))
@@ -128,7 +128,7 @@ calls-whole (turns {piece = piece} {at = at} {others = others} l later) = calls-
 calls-whole (leaves {line = line} {table = table} {at = at} {pieces = pieces} later) =
     calls-whole later ∙ rw (still-stopped line table (leftOf 0 []), still-stopped line table (leftOf at pieces))
 calls-whole (finishes {feed = feed} {line = line} {table = table} {out = out} size f) =
-    rw (nothing-fed (feedOf feed line table)) (text-in out _ _ _ size (f .written) (f .short) (f .text))
+    rw (nothing-fed (machineOf feed line table)) (text-in out _ _ _ size (f .written) (f .short) (f .text))
 
 -- The calls on the pieces of a text, cut anywhere, write what the rules say of the whole text: from what `start` answers on, with
 -- buffers that hold anything.
@@ -136,35 +136,35 @@ pub calls-run : (line table : List ℕ) (pieces : List (List ℕ)) (text : List 
 calls-run line table pieces text calls = calls-whole calls ∙ rw (starts line table, all-left pieces) (fed-all (joined pieces))
 
 -- what was written before changes nothing of where a text leads
-goes-wrote : (before : List ℕ) (feed : Feed) → goingOn (wrote before feed) ≡ goingOn feed
+goes-wrote : (before : List ℕ) (feed : Machine) → goingOn (wrote before feed) ≡ goingOn feed
 unfolding goingOn wrote
-goes-wrote before (reading run held written) = refl
+goes-wrote before (reading stage held written) = refl
 goes-wrote before (stopped written) = refl
 
-goes-fed : (feed : Feed) (text : List ℕ) → goingOn (fed (goingOn feed) text) ≡ goingOn (fed feed text)
+goes-fed : (feed : Machine) (text : List ℕ) → goingOn (fed (goingOn feed) text) ≡ goingOn (fed feed text)
 goes-fed feed text =
     sym (goes-wrote (writtenBy feed) (fed (goingOn feed) text))
-    ∙ ap goingOn (sym (fed-wrote (writtenBy feed) (goingOn feed) text) ∙ ap (λ (f : Feed). fed f text) (written-before feed))
+    ∙ ap goingOn (sym (fed-wrote (writtenBy feed) (goingOn feed) text) ∙ ap (λ (f : Machine). fed f text) (written-before feed))
 
 -- what a call leaves of a piece leads from there to where the piece leads from the call's place on
-pub part-fed : (feed : Kept) (piece : List ℕ) (at : ℕ) (line table out : List ℕ) (r : Fed) (lineNext tableNext outNext : List ℕ)
+pub part-fed : (feed : Feed) (piece : List ℕ) (at : ℕ) (line table out : List ℕ) (r : Fed) (lineNext tableNext outNext : List ℕ)
     → Feeds feed piece at line table out r lineNext tableNext outNext
-    → goingOn (fed (feedOf (r .feed) lineNext tableNext) (drop (r .next) piece)) ≡ goingOn (fed (feedOf feed line table) (drop at piece))
+    → goingOn (fed (machineOf (r .feed) lineNext tableNext) (drop (r .next) piece)) ≡ goingOn (fed (machineOf feed line table) (drop at piece))
 part-fed feed piece at line table out r lineNext tableNext outNext f =
-    let m = feedOf feed line table in
+    let m = machineOf feed line table in
     let part = partFrom piece at in
     let rest = drop (nextOf piece (lineEnd piece at)) piece in
     rw (f .next, f .stands .goes-on) (goes-fed (fed m part) rest ∙ ap goingOn (sym (fed-append m part rest) ∙ rw (part-and-rest piece at)))
 
 -- and at the piece's end nothing is left of it
-pub all-fed : (feed : Kept) (piece : List ℕ) (at : ℕ) (line table : List ℕ) → length piece ≤ at
-    → goingOn (fed (feedOf feed line table) (drop at piece)) ≡ feedOf feed line table
-unfolding feedOf goingOn
-all-fed (Reading run held) piece at line table l = rw (drop-of-length-le piece {i = at} l, nothing-fed (reading (standing run table) (take held line) []))
+pub all-fed : (feed : Feed) (piece : List ℕ) (at : ℕ) (line table : List ℕ) → length piece ≤ at
+    → goingOn (fed (machineOf feed line table) (drop at piece)) ≡ machineOf feed line table
+unfolding machineOf goingOn
+all-fed (Reading stage held) piece at line table l = rw (drop-of-length-le piece {i = at} l, nothing-fed (reading (stageOf stage table) (take held line) []))
 all-fed Stopped piece at line table l = rw (fed-stopped [] (drop at piece))
 
 -- the start is reached by no piece, and from any run that is reached one piece more leads to another
-pub reached-start : (feed : Kept) (line table : List ℕ) → feed ≡ Reading AtHeader 0 → Reached feed line table
+pub reached-start : (feed : Feed) (line table : List ℕ) → feed ≡ Reading AtHeader 0 → Reached feed line table
 unfolding fed joined goingOn
 reached-start feed line table e = record { pieces = []; led = rw (e, starts line table) }
 
@@ -173,7 +173,7 @@ unfolding joined
 joined-more [] piece = append-nil piece
 joined-more (first ∷ others) piece = rw (joined-more others piece, append-assoc first (joined others) piece)
 
-pub reached-more : (feed feedNext : Kept) (piece line table lineNext tableNext : List ℕ) → Reached feed line table
+pub reached-more : (feed feedNext : Feed) (piece line table lineNext tableNext : List ℕ) → Reached feed line table
     → FeedsAll feed piece line table feedNext lineNext tableNext → Reached feedNext lineNext tableNext
 reached-more feed feedNext piece line table lineNext tableNext reached all =
     let before = joined (reached .pieces) in

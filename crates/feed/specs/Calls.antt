@@ -6,41 +6,41 @@ use lib.ListN.{length, take, drop}
 use lib.Seq.{sets}
 use Rattle.rules.specs.RunFile.{refusalLine}
 use Rattle.text.specs.Lines.{endFrom}
-use Rattle.runfile.specs.declared.Run.{Run as KeptRun}
-use Rattle.runfile.specs.declared.Run.the-variants.{AtHeader, AtStart, AtBeat}
-use Rattle.runfile.specs.Runs.{standing, keptOf, tableOf}
-use Rattle.feed.specs.declared.Feed.{Feed as Kept}
+use Rattle.runfile.specs.declared.Stage.{Stage as KeptStage}
+use Rattle.runfile.specs.declared.Stage.the-variants.{AtHeader, AtStart, AtBeat}
+use Rattle.runfile.specs.Runs.{stageOf, keptOf, tableOf}
+use Rattle.feed.specs.declared.Feed.{Feed}
 use Rattle.feed.specs.declared.Feed.the-variants.{Reading, Stopped}
 use Rattle.feed.specs.declared.Fed.{Fed}
-use Rattle.feed.specs.Feeds.{Feed, reading, stopped, longest, fed, lastFed, finished, start, joined}
+use Rattle.feed.specs.Feeds.{Machine, reading, stopped, longest, fed, lastFed, finished, start, joined}
 
 -- the number of the line that a run waits for
-unfoldable pub numberOf : KeptRun → ℕ
+unfoldable pub numberOf : KeptStage → ℕ
 numberOf AtHeader = 1
 numberOf (AtStart h) = 2
 numberOf (AtBeat h beat) = beat + 3
 
 -- where the machine stands; what was written before is no longer known
-unfoldable pub feedOf : Kept → List ℕ → List ℕ → Feed
-feedOf (Reading run held) line table = reading (standing run table) (take held line) []
-feedOf Stopped line table = stopped []
+unfoldable pub machineOf : Feed → List ℕ → List ℕ → Machine
+machineOf (Reading stage held) line table = reading (stageOf stage table) (take held line) []
+machineOf Stopped line table = stopped []
 
 -- what is kept of it beside the buffers, its records, and what it has written
-unfoldable pub keptFeed : Feed → Kept
-keptFeed (reading run held written) = Reading (keptOf run) (length held)
+unfoldable pub keptFeed : Machine → Feed
+keptFeed (reading stage held written) = Reading (keptOf stage) (length held)
 keptFeed (stopped written) = Stopped
 
-unfoldable pub recordsOf : Feed → List ℕ
-recordsOf (reading run held written) = tableOf run
+unfoldable pub recordsOf : Machine → List ℕ
+recordsOf (reading stage held written) = tableOf stage
 recordsOf (stopped written) = []
 
-unfoldable pub writtenBy : Feed → List ℕ
-writtenBy (reading run held written) = written
+unfoldable pub writtenBy : Machine → List ℕ
+writtenBy (reading stage held written) = written
 writtenBy (stopped written) = written
 
 -- the same with nothing written
-unfoldable pub goingOn : Feed → Feed
-goingOn (reading run held written) = reading run held []
+unfoldable pub goingOn : Machine → Machine
+goingOn (reading stage held written) = reading stage held []
 goingOn (stopped written) = stopped []
 
 -- the buffer of the line, where a part is held behind what it holds
@@ -58,13 +58,13 @@ abbrev pub mostWritten : ℕ
 mostWritten = 69
 
 -- The machine stands at m: what is answered, and what the buffers hold. From there it goes on as m does.
-pub record Stands (m : Feed) (feed : Kept) (written : ℕ) (table out lineNext tableNext outNext : List ℕ) : Type 0 where
+pub record Stands (m : Machine) (feed : Feed) (written : ℕ) (table out lineNext tableNext outNext : List ℕ) : Type 0 where
   pub feed-is : feed ≡ keptFeed m
   pub written-is : written ≡ length (writtenBy m)
   pub short : written ≤ mostWritten
   pub records : tableNext ≡ sets table 0 (recordsOf m)
   pub text : outNext ≡ sets out 0 (writtenBy m)
-  pub goes-on : feedOf feed lineNext tableNext ≡ goingOn m
+  pub goes-on : machineOf feed lineNext tableNext ≡ goingOn m
 
 -- a place of a piece, and from there the part up to a line's end: with its line feed, if it has one
 abbrev pub placeIn : List ℕ → ℕ → ℕ
@@ -83,24 +83,24 @@ lineEnd piece at = endFrom piece (placeIn piece at)
 abbrev pub partFrom : List ℕ → ℕ → List ℕ
 partFrom piece at = partTo piece (placeIn piece at) (lineEnd piece at)
 
-unfoldable pub lineAfter : Kept → List ℕ → ℕ → List ℕ → List ℕ
-lineAfter (Reading run held) piece at line = heldWith line held (take (lineEnd piece at - placeIn piece at) (drop (placeIn piece at) piece))
+unfoldable pub lineAfter : Feed → List ℕ → ℕ → List ℕ → List ℕ
+lineAfter (Reading stage held) piece at line = heldWith line held (take (lineEnd piece at - placeIn piece at) (drop (placeIn piece at) piece))
 lineAfter Stopped piece at line = line
 
 -- a part of a piece is fed
-pub record Feeds (feed : Kept) (piece : List ℕ) (at : ℕ) (line table out : List ℕ) (r : Fed) (lineNext tableNext outNext : List ℕ) : Type 0 where
+pub record Feeds (feed : Feed) (piece : List ℕ) (at : ℕ) (line table out : List ℕ) (r : Fed) (lineNext tableNext outNext : List ℕ) : Type 0 where
   pub next : r .next ≡ nextOf piece (lineEnd piece at)
   pub held : lineNext ≡ lineAfter feed piece at line
-  pub stands : Stands (fed (feedOf feed line table) (partFrom piece at)) (r .feed) (r .written) table out lineNext tableNext outNext
+  pub stands : Stands (fed (machineOf feed line table) (partFrom piece at)) (r .feed) (r .written) table out lineNext tableNext outNext
 
 -- what is written where no more lines come
-unfoldable pub missing : KeptRun → List ℕ
+unfoldable pub missing : KeptStage → List ℕ
 missing AtHeader = refusalLine 1 10
 missing (AtStart h) = refusalLine 2 10
 missing (AtBeat h beat) = []
 
 -- the input is at its end
-pub record Finishes (m : Feed) (table out : List ℕ) (r : ℕ) (tableNext outNext : List ℕ) : Type 0 where
+pub record Finishes (m : Machine) (table out : List ℕ) (r : ℕ) (tableNext outNext : List ℕ) : Type 0 where
   pub written : r ≡ length (finished m)
   pub short : r ≤ mostWritten
   pub records : tableNext ≡ sets table 0 (recordsOf (lastFed m))
@@ -110,28 +110,28 @@ pub record Finishes (m : Feed) (table out : List ℕ) (r : ℕ) (tableNext outNe
 -- input. It holds `feed`, the state that was answered last, and the buffers `line` and `table`. Of the input are left `pieces`, the
 -- first of them from its place `at` on. A call is lent a buffer `out`, and writes as much of it as it answers; the next call takes
 -- its answer, and the buffers as it left them. `text` is all that is written, put together.
-pub data CallsWrite : (feed : Kept) (line table : List ℕ) (at : ℕ) (pieces : List (List ℕ)) (text : List ℕ) → Type 0 where
+pub data CallsWrite : (feed : Feed) (line table : List ℕ) (at : ℕ) (pieces : List (List ℕ)) (text : List ℕ) → Type 0 where
   -- `feed_from` on the first piece, from the place on
-  feeds : {feed : Kept} {piece line table out lineNext tableNext outNext text : List ℕ} {at : ℕ} {others : List (List ℕ)} {r : Fed}
+  feeds : {feed : Feed} {piece line table out lineNext tableNext outNext text : List ℕ} {at : ℕ} {others : List (List ℕ)} {r : Fed}
       → length out ≡ mostWritten → Feeds feed piece at line table out r lineNext tableNext outNext
       → CallsWrite (r .feed) lineNext tableNext (r .next) (piece ∷ others) text
       → CallsWrite feed line table at (piece ∷ others) (take (r .written) outNext ++ text)
   -- the first piece is at its end: the next one is fed from its place 0 on
-  turns : {feed : Kept} {piece line table text : List ℕ} {at : ℕ} {others : List (List ℕ)}
+  turns : {feed : Feed} {piece line table text : List ℕ} {at : ℕ} {others : List (List ℕ)}
       → length piece ≤ at → CallsWrite feed line table 0 others text → CallsWrite feed line table at (piece ∷ others) text
   -- a line was refused: what is left need not be fed
   leaves : {line table text : List ℕ} {at : ℕ} {pieces : List (List ℕ)}
       → CallsWrite Stopped line table 0 [] text → CallsWrite Stopped line table at pieces text
   -- no piece is left: `finish`
-  finishes : {feed : Kept} {line table out tableNext outNext : List ℕ} {at r : ℕ}
-      → length out ≡ mostWritten → Finishes (feedOf feed line table) table out r tableNext outNext
+  finishes : {feed : Feed} {line table out tableNext outNext : List ℕ} {at r : ℕ}
+      → length out ≡ mostWritten → Finishes (machineOf feed line table) table out r tableNext outNext
       → CallsWrite feed line table at [] (take r outNext)
 
 -- all of a piece is fed: the run stands where that leads
-abbrev pub FeedsAll : Kept → List ℕ → List ℕ → List ℕ → Kept → List ℕ → List ℕ → Type 0
-FeedsAll feed piece line table feedNext lineNext tableNext = feedOf feedNext lineNext tableNext ≡ goingOn (fed (feedOf feed line table) piece)
+abbrev pub FeedsAll : Feed → List ℕ → List ℕ → List ℕ → Feed → List ℕ → List ℕ → Type 0
+FeedsAll feed piece line table feedNext lineNext tableNext = machineOf feedNext lineNext tableNext ≡ goingOn (fed (machineOf feed line table) piece)
 
 -- the run stands where some pieces, fed one after the other from the start on, lead
-pub record Reached (feed : Kept) (line table : List ℕ) : Type 0 where
+pub record Reached (feed : Feed) (line table : List ℕ) : Type 0 where
   pub pieces : List (List ℕ)
-  pub led : feedOf feed line table ≡ goingOn (fed start (joined pieces))
+  pub led : machineOf feed line table ≡ goingOn (fed start (joined pieces))

@@ -5,20 +5,20 @@ use mathlib.Core.List.{List, [], _∷_, _++_}
 use lib.Dec.{eqb, ltb}
 use lib.ListN.{length}
 use Rattle.rules.specs.Text.{lineFeed}
-use Rattle.rules.specs.RunFile.{Run, atHeader, atStart, atBeat, Taken, accepted, refused, atEnd, refusalLine}
+use Rattle.rules.specs.RunFile.{Stage, atHeader, atStart, atBeat, Taken, accepted, refused, atEnd, refusalLine}
 use Rattle.runfile.specs.Runs.{takenLine}
 
 -- the number of the line that a run waits for, "from 1"
-unfoldable pub lineOf : Run → ℕ
+unfoldable pub lineOf : Stage → ℕ
 lineOf atHeader = 1
 lineOf (atStart h) = 2
 lineOf (atBeat h beat table) = beat + 3
 
 -- between two characters: where the run stands, what is held of the unfinished line, and what was written;
 -- or a line was refused, and nothing more is written
-pub data Feed : Type 0 where
-  reading : Run → List ℕ → List ℕ → Feed
-  stopped : List ℕ → Feed
+pub data Machine : Type 0 where
+  reading : Stage → List ℕ → List ℕ → Machine
+  stopped : List ℕ → Machine
 
 -- as much as is held of a line: one character more than the longest line has, 4 and 4 for each of 16·5·25 words
 abbrev pub longest : ℕ
@@ -28,40 +28,40 @@ longest = 8005
 unfoldable pub withMore : List ℕ → ℕ → List ℕ
 withMore held ch = cond (ltb (length held) longest) (held ++ (ch ∷ [])) held
 
-unfoldable pub afterLine : Run → List ℕ → Taken → Feed
-afterLine run written (accepted next text) = reading next [] (written ++ text)
-afterLine run written (refused refusal) = stopped (written ++ refusalLine (lineOf run) refusal)
+unfoldable pub afterLine : Stage → List ℕ → Taken → Machine
+afterLine stage written (accepted next text) = reading next [] (written ++ text)
+afterLine stage written (refused refusal) = stopped (written ++ refusalLine (lineOf stage) refusal)
 
 -- the line is at its end
-unfoldable pub ended : Run → List ℕ → List ℕ → Feed
-ended run held written = afterLine run written (takenLine run held)
+unfoldable pub ended : Stage → List ℕ → List ℕ → Machine
+ended stage held written = afterLine stage written (takenLine stage held)
 
 -- one character
-unfoldable pub fedByte : Feed → ℕ → Feed
-fedByte (reading run held written) ch =
-    cond (eqb ch lineFeed) (ended run held written) (reading run (withMore held ch) written)
+unfoldable pub fedByte : Machine → ℕ → Machine
+fedByte (reading stage held written) ch =
+    cond (eqb ch lineFeed) (ended stage held written) (reading stage (withMore held ch) written)
 fedByte (stopped written) ch = stopped written
 
 -- a piece
-unfoldable pub fed : Feed → List ℕ → Feed
+unfoldable pub fed : Machine → List ℕ → Machine
 fed feed [] = feed
 fed feed (ch ∷ rest) = fed (fedByte feed ch) rest
 
 -- the input is at its end: "What follows the last line feed is a line only if it has a character"
-unfoldable pub lastFed : Feed → Feed
-lastFed (reading run [] written) = reading run [] written
-lastFed (reading run (ch ∷ held) written) = ended run (ch ∷ held) written
+unfoldable pub lastFed : Machine → Machine
+lastFed (reading stage [] written) = reading stage [] written
+lastFed (reading stage (ch ∷ held) written) = ended stage (ch ∷ held) written
 lastFed (stopped written) = stopped written
 
-unfoldable pub allWritten : Feed → List ℕ
-allWritten (reading run held written) = written ++ atEnd (lineOf run) run
+unfoldable pub allWritten : Machine → List ℕ
+allWritten (reading stage held written) = written ++ atEnd (lineOf stage) stage
 allWritten (stopped written) = written
 
-unfoldable pub finished : Feed → List ℕ
+unfoldable pub finished : Machine → List ℕ
 finished feed = allWritten (lastFed feed)
 
 -- nothing is read
-abbrev pub start : Feed
+abbrev pub start : Machine
 start = reading atHeader [] []
 
 -- the pieces of a text, put together

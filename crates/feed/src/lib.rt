@@ -6,11 +6,11 @@ ghost use Prim.Native.Nat.{_+_, _-_, _≤_, min};
 ghost use lib.ListN.{length, take, drop};
 ghost use lib.Seq.{sets};
 ghost use Rattle.text.specs.Lines.{endFrom};
-ghost use Rattle.runfile.specs.Runs.{standing};
+ghost use Rattle.runfile.specs.Runs.{stageOf};
 ghost use Rattle.feed.specs.Feeds.{longest, ended, fed};
-ghost use Rattle.feed.specs.Calls.{numberOf, missing, heldWith, partTo, Holds, feedOf, Stands, Feeds, Finishes};
+ghost use Rattle.feed.specs.Calls.{numberOf, missing, heldWith, partTo, Holds, machineOf, Stands, Feeds, Finishes};
 use frames::output::put_refusal;
-use runfile::Run;
+use runfile::Stage;
 use runfile::line_taken;
 use text::lines::line_end;
 
@@ -19,7 +19,7 @@ const LONGEST: usize = 8005;
 
 // Where a run stands between two pieces: the run, and how many characters are held of the unfinished line; or a line was refused.
 pub enum Feed {
-    Reading(Run, usize),
+    Reading(Stage, usize),
     Stopped,
 }
 
@@ -63,31 +63,31 @@ fn hold(line: &mut [u8], held: usize, piece: &[u8], from: usize, end: usize) -> 
 }
 
 // The number of the line that a run waits for, "from 1".
-fn number_of(run: Run) -> u32
-    ensures { λ r. ⌜ r ≡ numberOf run ⌝ }
+fn number_of(stage: Stage) -> u32
+    ensures { λ r. ⌜ r ≡ numberOf stage ⌝ }
 {
-    match run {
-        Run::AtHeader => 1,
-        Run::AtStart(_) => 2,
-        Run::AtBeat(_, beat) => beat as u32 + 3,
+    match stage {
+        Stage::AtHeader => 1,
+        Stage::AtStart(_) => 2,
+        Stage::AtBeat(_, beat) => beat as u32 + 3,
     }
 }
 
 // The line is at its end: it is taken, or its refusal is written, "and stops".
-fn end_line(run: Run, line: &[u8], held: usize, table: &mut [u16], out: &mut [u8; 69]) -> Ended
+fn end_line(stage: Stage, line: &[u8], held: usize, table: &mut [u16], out: &mut [u8; 69]) -> Ended
     requires { ⌜ (held ≤ length (now line)) × (400 ≤ length (now table)) ⌝ }
-    ensures { λ r. ⌜ Stands (ended (standing run (now (table .entry))) (take held (now (line .entry))) []) (r .feed) (r .written) (now (table .entry)) (now (out .entry)) (now (line .entry)) (now (table .exit)) (now (out .exit)) ⌝ }
+    ensures { λ r. ⌜ Stands (ended (stageOf stage (now (table .entry))) (take held (now (line .entry))) []) (r .feed) (r .written) (now (table .entry)) (now (out .entry)) (now (line .entry)) (now (table .exit)) (now (out .exit)) ⌝ }
 {
-    let taken = line_taken(run, &line[..held], table, out);
+    let taken = line_taken(stage, &line[..held], table, out);
     let refusal = taken.refusal;
     if refusal != 0 {
-        let written = put_refusal(number_of(run), refusal, out);
+        let written = put_refusal(number_of(stage), refusal, out);
         return Ended {
             feed: Feed::Stopped,
             written,
         };
     }
-    let next = taken.run;
+    let next = taken.stage;
     Ended {
         feed: Feed::Reading(next, 0),
         written: taken.written,
@@ -96,7 +96,7 @@ fn end_line(run: Run, line: &[u8], held: usize, table: &mut [u16], out: &mut [u8
 
 // A part of a piece, up to the end of the line or of the piece.
 fn feed_part(
-    run: Run,
+    stage: Stage,
     held: usize,
     piece: &[u8],
     from: usize,
@@ -106,16 +106,16 @@ fn feed_part(
     out: &mut [u8; 69],
 ) -> Ended
     requires { ⌜ (from ≤ length (now piece)) × (end ≡ endFrom (now piece) from) × (length (now line) ≡ longest) × (400 ≤ length (now table)) ⌝ }
-    ensures { λ r. ⌜ (now (line .exit) ≡ heldWith (now (line .entry)) held (take (end - from) (drop from (now (piece .entry))))) × (Stands (fed (feedOf (Feed.Reading run held) (now (line .entry)) (now (table .entry))) (partTo (now (piece .entry)) from end)) (r .feed) (r .written) (now (table .entry)) (now (out .entry)) (now (line .exit)) (now (table .exit)) (now (out .exit))) ⌝ }
+    ensures { λ r. ⌜ (now (line .exit) ≡ heldWith (now (line .entry)) held (take (end - from) (drop from (now (piece .entry))))) × (Stands (fed (machineOf (Feed.Reading stage held) (now (line .entry)) (now (table .entry))) (partTo (now (piece .entry)) from end)) (r .feed) (r .written) (now (table .entry)) (now (out .entry)) (now (line .exit)) (now (table .exit)) (now (out .exit))) ⌝ }
 {
     let count = hold(line, held, piece, from, end);
     if end == piece.len() {
         return Ended {
-            feed: Feed::Reading(run, count),
+            feed: Feed::Reading(stage, count),
             written: 0,
         };
     }
-    end_line(run, line, count, table, out)
+    end_line(stage, line, count, table, out)
 }
 
 // Feeds a piece from a place on, up to and with the next line feed, or to its end. A line that ends there is taken.
@@ -138,8 +138,8 @@ pub fn feed_from(
             next,
             written: 0,
         },
-        Feed::Reading(run, held) => {
-            let ended = feed_part(run, held, piece, from, end, line, table, out);
+        Feed::Reading(stage, held) => {
+            let ended = feed_part(stage, held, piece, from, end, line, table, out);
             let later = ended.feed;
             Fed {
                 feed: later,
@@ -151,25 +151,31 @@ pub fn feed_from(
 }
 
 // "If line 1 or 2 is missing, its number is given with 10."; "An end after line 2 is good."
-fn put_missing(run: Run, out: &mut [u8; 69]) -> usize
-    ensures { λ r. ⌜ (r ≡ length (missing run)) × (now (out .exit) ≡ sets (now (out .entry)) 0 (missing run)) ⌝ }
+fn put_missing(stage: Stage, out: &mut [u8; 69]) -> usize
+    ensures { λ r. ⌜ (r ≡ length (missing stage)) × (now (out .exit) ≡ sets (now (out .entry)) 0 (missing stage)) ⌝ }
 {
-    match run {
-        Run::AtHeader => put_refusal(1, 10, out),
-        Run::AtStart(_) => put_refusal(2, 10, out),
-        Run::AtBeat(_, _) => 0,
+    match stage {
+        Stage::AtHeader => put_refusal(1, 10, out),
+        Stage::AtStart(_) => put_refusal(2, 10, out),
+        Stage::AtBeat(_, _) => 0,
     }
 }
 
 // The input is at its end: "each ended by a line feed (the last may lack it)".
-fn finish_line(run: Run, held: usize, line: &[u8], table: &mut [u16], out: &mut [u8; 69]) -> usize
+fn finish_line(
+    stage: Stage,
+    held: usize,
+    line: &[u8],
+    table: &mut [u16],
+    out: &mut [u8; 69],
+) -> usize
     requires { ⌜ (length (now line) ≡ longest) × (400 ≤ length (now table)) ⌝ }
-    ensures { λ r. ⌜ Finishes (feedOf (Feed.Reading run held) (now (line .entry)) (now (table .entry))) (now (table .entry)) (now (out .entry)) r (now (table .exit)) (now (out .exit)) ⌝ }
+    ensures { λ r. ⌜ Finishes (machineOf (Feed.Reading stage held) (now (line .entry)) (now (table .entry))) (now (table .entry)) (now (out .entry)) r (now (table .exit)) (now (out .exit)) ⌝ }
 {
     if held == 0 {
-        return put_missing(run, out);
+        return put_missing(stage, out);
     }
-    let ended = end_line(run, line, least(held, LONGEST), table, out);
+    let ended = end_line(stage, line, least(held, LONGEST), table, out);
     let last = ended.feed;
     let written = ended.written;
     match last {
@@ -180,17 +186,17 @@ fn finish_line(run: Run, held: usize, line: &[u8], table: &mut [u16], out: &mut 
 
 // Writes what is left to write where the input ends, and answers how long it is.
 pub fn finish(feed: Feed, line: &[u8; 8005], table: &mut [u16; 400], out: &mut [u8; 69]) -> usize
-    ensures { λ r. ⌜ Finishes (feedOf feed (now (line .entry)) (now (table .entry))) (now (table .entry)) (now (out .entry)) r (now (table .exit)) (now (out .exit)) ⌝ }
+    ensures { λ r. ⌜ Finishes (machineOf feed (now (line .entry)) (now (table .entry))) (now (table .entry)) (now (out .entry)) r (now (table .exit)) (now (out .exit)) ⌝ }
 {
     match feed {
         Feed::Stopped => 0,
-        Feed::Reading(run, held) => finish_line(run, held, line, table, out),
+        Feed::Reading(stage, held) => finish_line(stage, held, line, table, out),
     }
 }
 
 // Nothing is read yet.
 pub fn start() -> Feed
-    ensures { λ r. ⌜ r ≡ Feed.Reading Run.AtHeader 0 ⌝ }
+    ensures { λ r. ⌜ r ≡ Feed.Reading Stage.AtHeader 0 ⌝ }
 {
-    Feed::Reading(Run::AtHeader, 0)
+    Feed::Reading(Stage::AtHeader, 0)
 }

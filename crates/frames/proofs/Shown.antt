@@ -13,16 +13,15 @@ use Rattle.rules.specs.Parameters.{recordWords, badCards, badBroken, badModulus
 use Rattle.rules.specs.Groups.{wordOf, outputPlace}
 use Rattle.rules.specs.OneBeat.{shownCount}
 use Rattle.rules.specs.WholeBeat.{isBroken, badSet}
-use Rattle.rules.specs.Refusals.{given, wrong, shapeRefusal}
+use Rattle.rules.specs.Refusals.{given, wrong, counterRefusal}
 use Rattle.rules.specs.Calls.{shownAnswer}
 use Rattle.rules.specs.Text.{hexOf, lineFeed}
-use Rattle.rules.specs.RunFile.{Header, startWords, shownWord, outputLine, refusalLine}
+use Rattle.rules.specs.RunFile.{Header, headerTests, startWords, shownWord, outputLine, refusalLine}
 use Rattle.rules.proofs.Lists.{rows-length, rows-same}
 use Rattle.rules.proofs.Records.{output-inside}
 use Rattle.rules.proofs.Shapes.{counter-passed}
 use Rattle.digits.proofs.Hexadecimal.{hex-length}
 use Rattle.digits.proofs.Stores.{sets-append}
-use Rattle.frames.specs.Headers.{testsOf}
 use Rattle.frames.proofs.Stores.{first-stored}
 
 -- a record of the table
@@ -38,11 +37,11 @@ counter-part false true u b e = e
 counter-part false false true b e = e
 counter-part false false false b e = refl
 
-pub counter-none : (h : Header) → testsOf h ≡ 0 → shapeRefusal (h .n) (h .f) (h .c) 0 ≡ 0
+pub counter-none : (h : Header) → headerTests h ≡ 0 → counterRefusal (h .n) (h .f) (h .c) 0 ≡ 0
 counter-none h e = counter-part (badCards (h .n)) (badBroken (h .n) (h .f)) (badModulus (h .c)) (badSet (h .n) (h .f) (h .set)) e
 
 -- the shown count of a sound card
-pub shown-sound : (h : Header) (table : List ℕ) (v w : ℕ) → testsOf h ≡ 0 → w ≡ recordWords (h .f) → v * w + w ≤ length table → isBroken (h .set) v ≡ false
+pub shown-sound : (h : Header) (table : List ℕ) (v w : ℕ) → headerTests h ≡ 0 → w ≡ recordWords (h .f) → v * w + w ≤ length table → isBroken (h .set) v ≡ false
     → (words : List ℕ) → words ≡ take w (drop (v * w) table) → length words ≡ w
     → wordOf (shownAnswer (h .n) (h .f) (h .c) words) ≡ shownWord h table v
 unfolding shownAnswer shownCount shownWord

@@ -6,9 +6,9 @@ ghost use lib.Dec.{eqb};
 ghost use lib.ListN.{length};
 ghost use lib.Seq.{sets};
 ghost use Rattle.rules.specs.Refusals.{given};
-ghost use Rattle.rules.specs.RunFile.{frameDigits, beatOf, startWords, beatWords, startRefusal, beatRefusal};
+ghost use Rattle.rules.specs.RunFile.{headerTests, frameDigits, beatOf, startWords, beatWords, startLineRefusal, beatLineRefusal};
 ghost use Rattle.rules.specs.Text.{wellFormed, wordsAt};
-ghost use Rattle.frames.specs.Headers.{said, testsOf};
+ghost use Rattle.frames.specs.Headers.{said};
 use super::header::Header;
 use digits::number_at;
 use digits::well_formed;
@@ -20,7 +20,7 @@ const LAST_BEAT: u32 = 65534;
 
 // How many words line 2 has: n records.
 pub fn start_words(h: Header) -> usize
-    requires { ⌜ testsOf (said h) ≡ 0 ⌝ }
+    requires { ⌜ headerTests (said h) ≡ 0 ⌝ }
     ensures { λ r. ⌜ r ≡ startWords (said h) ⌝ }
 {
     (h.n * params::record_words(h.f)) as usize
@@ -28,7 +28,7 @@ pub fn start_words(h: Header) -> usize
 
 // How many words a later line has: n·(broken)·W.
 pub fn beat_words(h: Header) -> usize
-    requires { ⌜ testsOf (said h) ≡ 0 ⌝ }
+    requires { ⌜ headerTests (said h) ≡ 0 ⌝ }
     ensures { λ r. ⌜ r ≡ beatWords (said h) ⌝ }
 {
     (h.n * broken_below(h.set, h.n) * params::record_words(h.f)) as usize
@@ -57,17 +57,17 @@ pub fn read_words(line: &[u8], words: usize, buffer: &mut [u16])
 }
 
 // "Line 2 with another beat than 0000 .. is 11."
-pub fn start_refusal(h: Header, line: &[u8]) -> u32
-    requires { ⌜ testsOf (said h) ≡ 0 ⌝ }
-    ensures { λ r. ⌜ r ≡ startRefusal (said h) (now (line .entry)) ⌝ }
+pub fn start_line_refusal(h: Header, line: &[u8]) -> u32
+    requires { ⌜ headerTests (said h) ≡ 0 ⌝ }
+    ensures { λ r. ⌜ r ≡ startLineRefusal (said h) (now (line .entry)) ⌝ }
 {
     frame_refusal(line, start_words(h), 0)
 }
 
 // 11 where the beat is not the next, and for "any well-formed line after beat fffe".
-pub fn beat_refusal(h: Header, beat: u16, line: &[u8]) -> u32
-    requires { ⌜ testsOf (said h) ≡ 0 ⌝ }
-    ensures { λ r. ⌜ r ≡ beatRefusal (said h) beat (now (line .entry)) ⌝ }
+pub fn beat_line_refusal(h: Header, beat: u16, line: &[u8]) -> u32
+    requires { ⌜ headerTests (said h) ≡ 0 ⌝ }
+    ensures { λ r. ⌜ r ≡ beatLineRefusal (said h) beat (now (line .entry)) ⌝ }
 {
     let next = beat as u32 + 1;
     let refusal = frame_refusal(line, beat_words(h), next);

@@ -1,9 +1,9 @@
 // Line 1: "n (2 digits), f (2), c (4), broken set (4)".
 ghost use mathlib.Core.Path.{_≡_};
 ghost use mathlib.Core.Bool.{true};
-ghost use Rattle.rules.specs.RunFile.{headerDigits, headerOf, headerRefusal};
+ghost use Rattle.rules.specs.RunFile.{headerTests, headerDigits, headerOf, headerRefusal};
 ghost use Rattle.rules.specs.Text.{wellFormed};
-ghost use Rattle.frames.specs.Headers.{said, kept, testsOf};
+ghost use Rattle.frames.specs.Headers.{said, kept};
 use digits::number_at;
 use digits::well_formed;
 
@@ -30,8 +30,8 @@ pub fn header_of(line: &[u8]) -> Header
 }
 
 // Refusals 1, 2, 3 and 7.
-pub fn tests_of(h: Header) -> u32
-    ensures { λ r. ⌜ r ≡ testsOf (said h) ⌝ }
+pub fn header_tests(h: Header) -> u32
+    ensures { λ r. ⌜ r ≡ headerTests (said h) ⌝ }
 {
     let refusal = params::counter_refusal(h.n, h.f, h.c);
     if refusal != 0 {
@@ -50,5 +50,5 @@ pub fn header_refusal(line: &[u8]) -> u32
     if !well_formed(line, HEADER_DIGITS) {
         return 10;
     }
-    tests_of(header_of(line))
+    header_tests(header_of(line))
 }

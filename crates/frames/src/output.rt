@@ -3,31 +3,20 @@ ghost use mathlib.Core.Path.{_≡_};
 ghost use Prim.Native.Nat.{_<_, _≤_};
 ghost use lib.ListN.{length};
 ghost use lib.Seq.{sets};
-ghost use Rattle.rules.specs.Groups.{wordOf};
-ghost use Rattle.rules.specs.RunFile.{startWords, shownWord, outputLine, refusalLine};
-ghost use Rattle.frames.specs.Headers.{said, testsOf};
+ghost use Rattle.rules.specs.RunFile.{headerTests, startWords, shownWord, outputLine, refusalLine};
+ghost use Rattle.frames.specs.Headers.{said};
 use super::header::Header;
 use digits::put_number;
 use digits::words::put_word;
 use rack::broken::is_broken;
-use rules::Vote;
 
 const LINE_FEED: u8 = 10;
 
 const NONE_WORD: u16 = 65535;
 
-fn word_of(count: Vote) -> u16
-    ensures { λ r. ⌜ r ≡ wordOf count ⌝ }
-{
-    match count {
-        Vote::Count(x) => x,
-        Vote::None => NONE_WORD,
-    }
-}
-
 // "for each card in order, its shown count, ffff for none or broken"
 fn shown_word(h: Header, table: &[u16], v: u32) -> u16
-    requires { ⌜ (testsOf (said h) ≡ 0) × (v < h .n) × (startWords (said h) ≤ length (now table)) ⌝ }
+    requires { ⌜ (headerTests (said h) ≡ 0) × (v < h .n) × (startWords (said h) ≤ length (now table)) ⌝ }
     ensures { λ r. ⌜ r ≡ shownWord (said h) (now (table .entry)) v ⌝ }
 {
     if is_broken(h.set, v) {
@@ -37,12 +26,12 @@ fn shown_word(h: Header, table: &[u16], v: u32) -> u16
     let from = v as usize * w;
     let shown = card::shown_count(h.n, h.f, h.c, &table[from..from + w]);
     let count = shown.count;
-    word_of(count)
+    columns::word_of(count)
 }
 
 // Writes the line of an accepted frame: the beat and the shown counts.
 pub fn put_line(h: Header, beat: u16, table: &[u16], out: &mut [u8; 69]) -> usize
-    requires { ⌜ (testsOf (said h) ≡ 0) × (startWords (said h) ≤ length (now table)) ⌝ }
+    requires { ⌜ (headerTests (said h) ≡ 0) × (startWords (said h) ≤ length (now table)) ⌝ }
     ensures { λ r. ⌜ (r ≡ length (outputLine (said h) beat (now (table .entry)))) × (now (out .exit) ≡ sets (now (out .entry)) 0 (outputLine (said h) beat (now (table .entry)))) ⌝ }
 {
     put_word(out, 0, beat);

@@ -1,7 +1,7 @@
 -- The answer's struct, by the rules' own row of parameters.
 use Prim.Native.Nat.{ℕ}
 use Rattle.rules.specs.Calls.{Parameters, rowOf, paramsAnswer}
-use Rattle.rules.specs.Refusals.{paramsRefusal}
+use Rattle.rules.specs.Refusals.{shapeRefusal}
 use Rattle.params.specs.declared.Row.{Row}
 use Rattle.params.specs.declared.Parameters.{Parameters as Answer}
 
@@ -20,4 +20,4 @@ abbrev pub rowRead : ℕ → Row
 rowRead f = rowFrom (rowOf f)
 
 abbrev pub answerTo : ℕ → ℕ → Answer
-answerTo n f = record { refusal = paramsRefusal n f; row = rowFrom (paramsAnswer n f) }
+answerTo n f = record { refusal = shapeRefusal n f 0; row = rowFrom (paramsAnswer n f) }

@@ -1,7 +1,7 @@
 ghost use mathlib.Core.Path.{_≡_};
 ghost use Prim.Native.Nat.{_≤_};
 ghost use Rattle.rules.specs.Parameters.{badModulus, mostBroken, recordWords};
-ghost use Rattle.rules.specs.Refusals.{paramsRefusal, shapeRefusal};
+ghost use Rattle.rules.specs.Refusals.{shapeRefusal, counterRefusal};
 ghost use Rattle.params.specs.Answers.{rowRead, answerTo};
 
 const MOST_CARDS: u32 = 16;
@@ -38,7 +38,7 @@ pub struct Parameters {
 
 // Refusals 1 and 2.
 pub fn shape_refusal(n: u32, f: u32) -> u32
-    ensures { λ r. ⌜ r ≡ paramsRefusal n f ⌝ }
+    ensures { λ r. ⌜ r ≡ shapeRefusal n f 0 ⌝ }
 {
     if n == 0 {
         return 1;
@@ -67,7 +67,7 @@ pub fn modulus_refused(c: u32) -> bool
 
 // Refusals 1, 2 and 3.
 pub fn counter_refusal(n: u32, f: u32, c: u32) -> u32
-    ensures { λ r. ⌜ r ≡ shapeRefusal n f c 0 ⌝ }
+    ensures { λ r. ⌜ r ≡ counterRefusal n f c 0 ⌝ }
 {
     let refusal = shape_refusal(n, f);
     if refusal != 0 {

@@ -9,8 +9,9 @@ use borrow.Author.Tests.{eq-eqb, eqb-true, leb-true, not-false}
 use Rattle.rules.specs.Parameters.{badCards, badBroken, badModulus}
 use Rattle.rules.specs.WholeBeat.{badSet}
 use Rattle.rules.specs.Text.{wellFormed}
-use Rattle.rules.specs.Refusals.{given, shapeRefusal, beatRefusal as wholeBeatRefusal}
-use Rattle.rules.specs.RunFile.{Header, frameDigits, beatOf, startWords, beatWords, lastBeat, startRefusal, beatRefusal}
+use Rattle.rules.specs.Refusals.{given, counterRefusal, beatRefusal}
+use Rattle.rules.specs.RunFile.{Header, headerTests, frameDigits, beatOf, startWords, beatWords, lastBeat}
+use Rattle.rules.specs.RunFile.{startLineRefusal, beatLineRefusal}
 use Rattle.rules.proofs.Tests.{and-left, and-right}
 use Rattle.rules.proofs.Shapes.{not-given}
 
@@ -24,24 +25,24 @@ tests-passed false false false true others e = absurd (omega arith)
 tests-passed false false false false others e = refl
 
 -- so a beat of such a header is refused for its lengths alone
-pub beat-passed : (h : Header) → shapeRefusal (h .n) (h .f) (h .c) (given 7 (badSet (h .n) (h .f) (h .set)) 0) ≡ 0
+pub beat-passed : (h : Header) → headerTests h ≡ 0
     → (held sent out : ℕ) → held ≡ startWords h → sent ≡ beatWords h → out ≡ startWords h
-    → wholeBeatRefusal (h .n) (h .f) (h .c) (h .set) held sent out ≡ 0
+    → beatRefusal (h .n) (h .f) (h .c) (h .set) held sent out ≡ 0
 beat-passed h e held sent out p q r =
     tests-passed (badCards (h .n)) (badBroken (h .n) (h .f)) (badModulus (h .c)) (badSet (h .n) (h .f) (h .set)) _ e
     ∙ rw (eq-eqb held (startWords h) p, eq-eqb sent (beatWords h) q, eq-eqb out (startWords h) r)
 
 -- a frame that is not refused is well formed
-pub start-formed : (h : Header) (line : List ℕ) → startRefusal h line ≡ 0 → wellFormed (frameDigits (startWords h)) line ≡ true
-unfolding startRefusal
+pub start-formed : (h : Header) (line : List ℕ) → startLineRefusal h line ≡ 0 → wellFormed (frameDigits (startWords h)) line ≡ true
+unfolding startLineRefusal
 start-formed h line e =
     let formed = wellFormed (frameDigits (startWords h)) line in
     not-false formed (not-given 10 (not formed) _ (omega arith) e .0)
 
 -- and its beat is the next, which is none after the last
-pub beat-formed : (h : Header) (beat : ℕ) (line : List ℕ) → beatRefusal h beat line ≡ 0
+pub beat-formed : (h : Header) (beat : ℕ) (line : List ℕ) → beatLineRefusal h beat line ≡ 0
     → (wellFormed (frameDigits (beatWords h)) line ≡ true) × (beat + 1 ≤ lastBeat)
-unfolding beatRefusal
+unfolding beatLineRefusal
 beat-formed h beat line e =
     let formed = wellFormed (frameDigits (beatWords h)) line in
     let p = not-given 10 (not formed) _ (omega arith) e in

@@ -7,7 +7,7 @@ use lib.Dec.{eqb, ltb, leb}
 use borrow.Author.Tests.{eqb-true, eqb-false, ltb-false, leb-false, not-false}
 use Rattle.rules.specs.Parameters.{mostCards, mostBroken, leastModulus, mostModulus, recordWords, badCards, badBroken, badModulus}
 use Rattle.rules.specs.WholeBeat.{brokenBelow, badSet, sentWords}
-use Rattle.rules.specs.Refusals.{given, wrong, paramsRefusal, shapeRefusal, stepRefusal, beatRefusal, shownRefusal}
+use Rattle.rules.specs.Refusals.{given, wrong, shapeRefusal, counterRefusal, stepRefusal, beatRefusal, shownRefusal}
 use Rattle.rules.proofs.Tests.{never}
 
 -- a refusal that is 0: the test did not hold, and nor did those after it
@@ -32,7 +32,7 @@ shape-passed false true others r e z = absurd (omega arith)
 shape-passed false false others r e z = refl
 
 -- the same of refusals 1, 2 and 3
-pub counter-refused : (n f c others r : ℕ) → r ≡ shapeRefusal n f c 0 → (r ≡ 0 → ⊥) → r ≡ shapeRefusal n f c others
+pub counter-refused : (n f c others r : ℕ) → r ≡ counterRefusal n f c 0 → (r ≡ 0 → ⊥) → r ≡ counterRefusal n f c others
 counter-refused n f c others r e h = go (badCards n) (badBroken n f) (badModulus c) e
   where
     go : (s t u : Bool) → r ≡ given 1 s (given 2 t (given 3 u 0)) → r ≡ given 1 s (given 2 t (given 3 u others))
@@ -41,7 +41,7 @@ counter-refused n f c others r e h = go (badCards n) (badBroken n f) (badModulus
     go false false true q = q
     go false false false q = absurd (h q)
 
-pub counter-passed : (n f c others r : ℕ) → r ≡ shapeRefusal n f c 0 → r ≡ 0 → shapeRefusal n f c others ≡ others
+pub counter-passed : (n f c others r : ℕ) → r ≡ counterRefusal n f c 0 → r ≡ 0 → counterRefusal n f c others ≡ others
 counter-passed n f c others r e z = go (badCards n) (badBroken n f) (badModulus c) e
   where
     go : (s t u : Bool) → r ≡ given 1 s (given 2 t (given 3 u 0)) → given 1 s (given 2 t (given 3 u others)) ≡ others
@@ -80,7 +80,7 @@ pub record Counter (n f c others : ℕ) : Type 0 where
   pub most : c ≤ mostModulus
   pub passed : others ≡ 0
 
-pub counter-accepted : (n f c others : ℕ) → shapeRefusal n f c others ≡ 0 → Counter n f c others
+pub counter-accepted : (n f c others : ℕ) → counterRefusal n f c others ≡ 0 → Counter n f c others
 counter-accepted n f c others e =
     let p = not-given 1 (badCards n) _ (omega arith) e in
     let q = not-given 2 (badBroken n f) _ (omega arith) (p .1) in
@@ -88,11 +88,11 @@ counter-accepted n f c others e =
     let g = good-modulus c (m .0) in
     record { shape = good-shape n f (p .0) (q .0); least = g .0; most = g .1; passed = m .1 }
 
-pub counter-shape : (n f c : ℕ) → shapeRefusal n f c 0 ≡ 0 → Shape n f
+pub counter-shape : (n f c : ℕ) → counterRefusal n f c 0 ≡ 0 → Shape n f
 counter-shape n f c e = counter-accepted n f c 0 e .shape
 
 -- where the parameters of n and f are not refused
-pub accepted : (n f : ℕ) → paramsRefusal n f ≡ 0 → Shape n f
+pub accepted : (n f : ℕ) → shapeRefusal n f 0 ≡ 0 → Shape n f
 accepted n f e =
     let p = not-given 1 (badCards n) _ (omega arith) e in
     let q = not-given 2 (badBroken n f) 0 (omega arith) (p .1) in

@@ -11,45 +11,44 @@ use lib.Seq.{sets}
 use Rattle.rules.specs.Parameters.{recordWords}
 use Rattle.rules.specs.WholeBeat.{tableAfter}
 use Rattle.rules.specs.Calls.{beatOut}
-use Rattle.rules.specs.RunFile.{Header, Run, atHeader, Taken, accepted, startWords, beatWords, headerRefusal, orRefused, takeLine}
+use Rattle.rules.specs.RunFile.{Header, headerTests, Stage, atHeader, Taken, accepted, startWords, beatWords, headerRefusal, orRefused, takeLine}
 use Rattle.rules.proofs.Tests.{decided}
 use Rattle.rules.proofs.Lists.{rows-length}
 use Rattle.rules.proofs.Records.{record-length}
 use Rattle.rules.proofs.RunFiles.{beat-passed}
-use Rattle.frames.specs.Headers.{testsOf}
-use Rattle.runfile.specs.declared.Run.{Run as Kept}
-use Rattle.runfile.specs.declared.Run.the-variants.{AtHeader, AtStart, AtBeat}
+use Rattle.runfile.specs.declared.Stage.{Stage as KeptStage}
+use Rattle.runfile.specs.declared.Stage.the-variants.{AtHeader, AtStart, AtBeat}
 use Rattle.runfile.specs.declared.Taken.{Taken as Answer}
-use Rattle.runfile.specs.Runs.{standing, keptOf, tableOf, keptTests, runTests, takenLine, tableNext, answerOf, tableIn, textIn, Takes}
+use Rattle.runfile.specs.Runs.{stageOf, keptOf, tableOf, keptTests, stageTests, takenLine, tableNext, answerOf, tableIn, textIn, Takes}
 
-pub refused-takes : (run : Kept) (refusal r : ℕ) (t : Taken) (table out : List ℕ) → r ≡ refusal → (r ≡ 0 → ⊥)
-    → Takes run (orRefused refusal t) table out (record { refusal = r; run = run; written = 0 }) table out
+pub refused-takes : (stage : KeptStage) (refusal r : ℕ) (t : Taken) (table out : List ℕ) → r ≡ refusal → (r ≡ 0 → ⊥)
+    → Takes stage (orRefused refusal t) table out (record { refusal = r; stage = stage; written = 0 }) table out
 unfolding orRefused answerOf tableIn textIn
-refused-takes run refusal r t table out e h =
+refused-takes stage refusal r t table out e h =
     rw (← e, ne-eqb r 0 h) (record { answer = refl; records = refl; line = refl })
 
-pub accepted-takes : (run : Kept) (refusal : ℕ) (next : Run) (text table out tableNext outNext : List ℕ) (written : ℕ)
+pub accepted-takes : (stage : KeptStage) (refusal : ℕ) (next : Stage) (text table out tableNext outNext : List ℕ) (written : ℕ)
     → refusal ≡ 0 → tableNext ≡ sets table 0 (tableOf next) → outNext ≡ sets out 0 text → written ≡ length text
-    → Takes run (orRefused refusal (accepted next text)) table out (record { refusal = 0; run = keptOf next; written = written }) tableNext outNext
+    → Takes stage (orRefused refusal (accepted next text)) table out (record { refusal = 0; stage = keptOf next; written = written }) tableNext outNext
 unfolding orRefused answerOf tableIn textIn
-accepted-takes run refusal next text table out tableNext outNext written e p q w =
+accepted-takes stage refusal next text table out tableNext outNext written e p q w =
     rw (eq-eqb refusal 0 e) (record { answer = rw w; records = p; line = q })
 
 -- a run keeps the tests of its header
-pub tests-kept : (run : Kept) (table : List ℕ) → runTests (standing run table) ≡ keptTests run
-unfolding runTests standing keptTests
+pub tests-kept : (stage : KeptStage) (table : List ℕ) → stageTests (stageOf stage table) ≡ keptTests stage
+unfolding stageTests stageOf keptTests
 tests-kept AtHeader table = refl
 tests-kept (AtStart h) table = refl
 tests-kept (AtBeat h beat) table = refl
 
 -- the run of a file passes its tests
-pub taken-is : (run : Run) (line : List ℕ) → runTests run ≡ 0 → takenLine run line ≡ takeLine run line
+pub taken-is : (stage : Stage) (line : List ℕ) → stageTests stage ≡ 0 → takenLine stage line ≡ takeLine stage line
 unfolding takenLine orRefused
-taken-is run line e = rw e
+taken-is stage line e = rw e
 
 -- where a kept run passes them, a line is taken as the rules say
-pub passed : (run : Kept) (table line : List ℕ) → keptTests run ≡ 0 → takenLine (standing run table) line ≡ takeLine (standing run table) line
-passed run table line e = taken-is (standing run table) line (tests-kept run table ∙ e)
+pub passed : (stage : KeptStage) (table line : List ℕ) → keptTests stage ≡ 0 → takenLine (stageOf stage table) line ≡ takeLine (stageOf stage table) line
+passed stage table line e = taken-is (stageOf stage table) line (tests-kept stage table ∙ e)
 
 -- line 1 leaves the buffers as they are
 header-writes : (line : List ℕ) → (tableIn (takeLine atHeader line) ≡ []) × (textIn (takeLine atHeader line) ≡ [])
@@ -73,13 +72,13 @@ pub next-length : (h : Header) (table line : List ℕ) → length (tableNext h t
 next-length h table line = after-length h _ _
 
 -- where the run is known, the line is taken as the rules say
-pub takes-as : (run known : Kept) (table line out : List ℕ) (r : Answer) (tableNext outNext : List ℕ) → run ≡ known → keptTests run ≡ 0
-    → Takes known (takeLine (standing known table) line) table out r tableNext outNext
-    → Takes run (takenLine (standing run table) line) table out r tableNext outNext
-takes-as run known table line out r tableNext outNext e z t = rw (e, passed known table line (rw e at z)) t
+pub takes-as : (stage known : KeptStage) (table line out : List ℕ) (r : Answer) (tableNext outNext : List ℕ) → stage ≡ known → keptTests stage ≡ 0
+    → Takes known (takeLine (stageOf known table) line) table out r tableNext outNext
+    → Takes stage (takenLine (stageOf stage table) line) table out r tableNext outNext
+takes-as stage known table line out r tableNext outNext e z t = rw (e, passed known table line (rw e at z)) t
 
 -- a whole beat on the records of a header that passes its tests
-pub beat-done : (h : Header) → testsOf h ≡ 0 → (held sent out next : List ℕ)
+pub beat-done : (h : Header) → headerTests h ≡ 0 → (held sent out next : List ℕ)
     → length held ≡ startWords h → length sent ≡ beatWords h → length out ≡ startWords h → next ≡ beatOut (h .n) (h .f) (h .c) (h .set) held sent out
     → next ≡ tableAfter (h .n) (h .f) (h .c) (h .set) held sent
 unfolding beatOut

@@ -6,16 +6,16 @@ ghost use Prim.Native.Nat.{_≤_};
 ghost use lib.ListN.{length};
 ghost use lib.Seq.{sets};
 ghost use Rattle.rules.specs.Text.{wellFormed};
-ghost use Rattle.rules.specs.RunFile.{frameDigits, beatWords, takeLine, atHeader, atStart};
-ghost use Rattle.frames.specs.Headers.{said, testsOf};
-ghost use Rattle.runfile.specs.Runs.{keptTests, answerOf, standing, recordsAfter, tableNext, takenLine, Takes};
+ghost use Rattle.rules.specs.RunFile.{headerTests, frameDigits, beatWords, takeLine, atHeader, atStart};
+ghost use Rattle.frames.specs.Headers.{said};
+ghost use Rattle.runfile.specs.Runs.{keptTests, answerOf, stageOf, recordsAfter, tableNext, takenLine, Takes};
 use frames::frame;
 use frames::header;
 use frames::header::Header;
 use frames::output;
 
 // Where a run stands between two lines: it waits for line 1, for line 2, or for the line after a beat.
-pub enum Run {
+pub enum Stage {
     AtHeader,
     AtStart(Header),
     AtBeat(Header, u16),
@@ -24,51 +24,51 @@ pub enum Run {
 // What a line answers: its refusal, 0 if it is accepted, the run after it, and how long its output line is.
 pub struct Taken {
     pub refusal: u32,
-    pub run: Run,
+    pub stage: Stage,
     pub written: usize,
 }
 
 // A run that no line 1 leads to is refused by the number of its header.
-fn run_tests(run: Run) -> u32
-    ensures { λ r. ⌜ r ≡ keptTests run ⌝ }
+fn stage_tests(stage: Stage) -> u32
+    ensures { λ r. ⌜ r ≡ keptTests stage ⌝ }
 {
-    match run {
-        Run::AtHeader => 0,
-        Run::AtStart(h) => header::tests_of(h),
-        Run::AtBeat(h, _) => header::tests_of(h),
+    match stage {
+        Stage::AtHeader => 0,
+        Stage::AtStart(h) => header::header_tests(h),
+        Stage::AtBeat(h, _) => header::header_tests(h),
     }
 }
 
 // Line 1.
 fn take_header(line: &[u8]) -> Taken
-    ensures { λ r. ⌜ r ≡ answerOf Run.AtHeader (takeLine atHeader (now (line .entry))) ⌝ }
+    ensures { λ r. ⌜ r ≡ answerOf Stage.AtHeader (takeLine atHeader (now (line .entry))) ⌝ }
 {
     let refusal = header::header_refusal(line);
     if refusal != 0 {
         return Taken {
             refusal,
-            run: Run::AtHeader,
+            stage: Stage::AtHeader,
             written: 0,
         };
     }
     let h = header::header_of(line);
     Taken {
         refusal: 0,
-        run: Run::AtStart(h),
+        stage: Stage::AtStart(h),
         written: 0,
     }
 }
 
 // "Line 2: beat 0000, then n records."
 fn take_start(h: Header, line: &[u8], table: &mut [u16], out: &mut [u8; 69]) -> Taken
-    requires { ⌜ (testsOf (said h) ≡ 0) × (400 ≤ length (now table)) ⌝ }
-    ensures { λ r. ⌜ Takes (Run.AtStart h) (takeLine (atStart (said h)) (now (line .entry))) (now (table .entry)) (now (out .entry)) r (now (table .exit)) (now (out .exit)) ⌝ }
+    requires { ⌜ (headerTests (said h) ≡ 0) × (400 ≤ length (now table)) ⌝ }
+    ensures { λ r. ⌜ Takes (Stage.AtStart h) (takeLine (atStart (said h)) (now (line .entry))) (now (table .entry)) (now (out .entry)) r (now (table .exit)) (now (out .exit)) ⌝ }
 {
-    let refusal = frame::start_refusal(h, line);
+    let refusal = frame::start_line_refusal(h, line);
     if refusal != 0 {
         return Taken {
             refusal,
-            run: Run::AtStart(h),
+            stage: Stage::AtStart(h),
             written: 0,
         };
     }
@@ -77,7 +77,7 @@ fn take_start(h: Header, line: &[u8], table: &mut [u16], out: &mut [u8; 69]) -> 
     let written = output::put_line(h, 0, table, out);
     Taken {
         refusal: 0,
-        run: Run::AtBeat(h, 0),
+        stage: Stage::AtBeat(h, 0),
         written,
     }
 }
@@ -96,20 +96,9 @@ fn room_for_line() -> [u16; 2000]
     [0; 2000]
 }
 
-// Copies words to the start of a table.
-fn copy_words(words: &[u16], table: &mut [u16])
-    requires { ⌜ length (now words) ≤ length (now table) ⌝ }
-    ensures { λ _. ⌜ now (table .exit) ≡ sets (now (table .entry)) 0 (now (words .entry)) ⌝ }
-{
-    let count = words.len();
-    for j in 0..count {
-        table[j] = words[j];
-    }
-}
-
 // The records after a beat, in the place of those before it.
 fn beat_records(h: Header, sent: &[u16], table: &mut [u16])
-    requires { ⌜ (testsOf (said h) ≡ 0) × (length (now sent) ≡ beatWords (said h)) × (400 ≤ length (now table)) ⌝ }
+    requires { ⌜ (headerTests (said h) ≡ 0) × (length (now sent) ≡ beatWords (said h)) × (400 ≤ length (now table)) ⌝ }
     ensures { λ _. ⌜ now (table .exit) ≡ sets (now (table .entry)) 0 (recordsAfter (said h) (now (table .entry)) (now (sent .entry))) ⌝ }
 {
     let words = frame::start_words(h);
@@ -123,12 +112,12 @@ fn beat_records(h: Header, sent: &[u16], table: &mut [u16])
         sent,
         &mut next[..words],
     );
-    copy_words(&next[..words], table);
+    rack::copy_words(&next, 0, table, 0, words);
 }
 
 // The same, with the words that the broken cards send on a line.
 fn next_table(h: Header, line: &[u8], table: &mut [u16])
-    requires { ⌜ (testsOf (said h) ≡ 0) × (wellFormed (frameDigits (beatWords (said h))) (now line) ≡ true) × (400 ≤ length (now table)) ⌝ }
+    requires { ⌜ (headerTests (said h) ≡ 0) × (wellFormed (frameDigits (beatWords (said h))) (now line) ≡ true) × (400 ≤ length (now table)) ⌝ }
     ensures { λ _. ⌜ now (table .exit) ≡ sets (now (table .entry)) 0 (tableNext (said h) (now (table .entry)) (now (line .entry))) ⌝ }
 {
     let count = frame::beat_words(h);
@@ -139,14 +128,14 @@ fn next_table(h: Header, line: &[u8], table: &mut [u16])
 
 // "Each later line: its beat, then the broken cards' words for that beat."
 fn take_beat(h: Header, beat: u16, line: &[u8], table: &mut [u16], out: &mut [u8; 69]) -> Taken
-    requires { ⌜ (testsOf (said h) ≡ 0) × (400 ≤ length (now table)) ⌝ }
-    ensures { λ r. ⌜ Takes (Run.AtBeat h beat) (takeLine (standing (Run.AtBeat h beat) (now (table .entry))) (now (line .entry))) (now (table .entry)) (now (out .entry)) r (now (table .exit)) (now (out .exit)) ⌝ }
+    requires { ⌜ (headerTests (said h) ≡ 0) × (400 ≤ length (now table)) ⌝ }
+    ensures { λ r. ⌜ Takes (Stage.AtBeat h beat) (takeLine (stageOf (Stage.AtBeat h beat) (now (table .entry))) (now (line .entry))) (now (table .entry)) (now (out .entry)) r (now (table .exit)) (now (out .exit)) ⌝ }
 {
-    let refusal = frame::beat_refusal(h, beat, line);
+    let refusal = frame::beat_line_refusal(h, beat, line);
     if refusal != 0 {
         return Taken {
             refusal,
-            run: Run::AtBeat(h, beat),
+            stage: Stage::AtBeat(h, beat),
             written: 0,
         };
     }
@@ -155,34 +144,34 @@ fn take_beat(h: Header, beat: u16, line: &[u8], table: &mut [u16], out: &mut [u8
     let written = output::put_line(h, next, table, out);
     Taken {
         refusal: 0,
-        run: Run::AtBeat(h, next),
+        stage: Stage::AtBeat(h, next),
         written,
     }
 }
 
 // One line, of a table that is long enough for any rack.
-pub fn line_taken(run: Run, line: &[u8], table: &mut [u16], out: &mut [u8; 69]) -> Taken
+pub fn line_taken(stage: Stage, line: &[u8], table: &mut [u16], out: &mut [u8; 69]) -> Taken
     requires { ⌜ 400 ≤ length (now table) ⌝ }
-    ensures { λ r. ⌜ Takes run (takenLine (standing run (now (table .entry))) (now (line .entry))) (now (table .entry)) (now (out .entry)) r (now (table .exit)) (now (out .exit)) ⌝ }
+    ensures { λ r. ⌜ Takes stage (takenLine (stageOf stage (now (table .entry))) (now (line .entry))) (now (table .entry)) (now (out .entry)) r (now (table .exit)) (now (out .exit)) ⌝ }
 {
-    let refusal = run_tests(run);
+    let refusal = stage_tests(stage);
     if refusal != 0 {
         return Taken {
             refusal,
-            run,
+            stage,
             written: 0,
         };
     }
-    match run {
-        Run::AtHeader => take_header(line),
-        Run::AtStart(h) => take_start(h, line, table, out),
-        Run::AtBeat(h, beat) => take_beat(h, beat, line, table, out),
+    match stage {
+        Stage::AtHeader => take_header(line),
+        Stage::AtStart(h) => take_start(h, line, table, out),
+        Stage::AtBeat(h, beat) => take_beat(h, beat, line, table, out),
     }
 }
 
 // Takes one line: it is accepted, and its output line is written, or it is refused, and nothing is.
-pub fn take_line(run: Run, line: &[u8], table: &mut [u16; 400], out: &mut [u8; 69]) -> Taken
-    ensures { λ r. ⌜ Takes run (takenLine (standing run (now (table .entry))) (now (line .entry))) (now (table .entry)) (now (out .entry)) r (now (table .exit)) (now (out .exit)) ⌝ }
+pub fn take_line(stage: Stage, line: &[u8], table: &mut [u16; 400], out: &mut [u8; 69]) -> Taken
+    ensures { λ r. ⌜ Takes stage (takenLine (stageOf stage (now (table .entry))) (now (line .entry))) (now (table .entry)) (now (out .entry)) r (now (table .exit)) (now (out .exit)) ⌝ }
 {
-    line_taken(run, line, table, out)
+    line_taken(stage, line, table, out)
 }

@@ -7,13 +7,12 @@
 //! Numbers are decimal. RECORDS are the bytes given, OUT and AFTER those of the output buffer before and after the call,
 //! in hexadecimal, a dash for none. WORDS and BEATS are W and T(f), BYTES a record, and SHOWN the count that it shows.
 
+use generate::calls::{Call, LagCall, StepBytesCall};
+use generate::{Random, Shape};
 use second::bytes::bytes_of;
 use second::card::shown;
 use second::count::write;
-use second::generate::calls::{Call, LagCall, StepBytesCall};
-use second::generate::Shape;
 use second::params::{parameters, MOST_MODULUS};
-use second::random::Random;
 use second::refusal::Refusal;
 
 fn main() {

@@ -1,11 +1,11 @@
 //! The calls: their refusals, and the answer or the buffer afterwards, refused or not.
 
-use second::generate::calls::{
+use generate::calls::{
     BeatCall, Call, LagCall, ParametersCall, ReadCall, ShownCall, StepBytesCall, StepCall,
     WriteCall,
 };
+use generate::Random;
 use second::params::{Parameters, MOST_CARDS};
-use second::random::Random;
 use second::refusal::Refusal;
 
 use crate::case::Case;
@@ -72,7 +72,7 @@ fn spoil<C: Call>(call: &mut C, random: &mut Random) {
 
 impl Defined for ParametersCall {
     fn refusal(&self) -> String {
-        apply("paramsRefusal", &[&self.n, &self.f])
+        apply("shapeRefusal", &[&self.n, &self.f, &0])
     }
 
     fn answer(&self) -> String {

@@ -1,6 +1,6 @@
 //! Claims as antt reads them: one for each equation, proved by computing.
 
-use crate::case::Case;
+use crate::case::{Case, Equation};
 use crate::definitions::Definitions;
 
 const PREAMBLE: &str = "\
@@ -18,28 +18,26 @@ const BATCH: usize = 25;
 /// The files of a crate of claims, each with its name. The number of a case is its place.
 pub fn crate_files(definitions: &Definitions, cases: &[Case]) -> Vec<(String, String)> {
     let mut files = Vec::new();
-    let mut lib = String::new();
     for (batch, some) in cases.chunks(BATCH).enumerate() {
-        lib += &format!("pub mod Batch{batch}\n");
         let mut text = format!("{PREAMBLE}{}", definitions.imports);
         for (place, case) in some.iter().enumerate() {
             text += &claims(definitions, batch * BATCH + place, case);
         }
         files.push((format!("Batch{batch}.antt"), text));
     }
-    files.push(("Lib.antt".to_string(), lib));
+    let modules = (0..files.len()).map(|batch| format!("pub mod Batch{batch}\n"));
+    files.push(("Lib.antt".to_string(), modules.collect()));
     files
 }
 
 fn claims(definitions: &Definitions, number: usize, case: &Case) -> String {
     let unfolded = definitions.unfolded.join(" ");
-    let mut text = String::new();
-    for equation in &case.equations {
+    let claim = |equation: &Equation| {
         let name = claim_name(number, &equation.about);
         let (term, value) = (&equation.term, &equation.value);
-        text += &format!("\npub {name} : {term} ≡ {value}\nunfolding {unfolded}\n{name} = refl\n");
-    }
-    text
+        format!("\npub {name} : {term} ≡ {value}\nunfolding {unfolded}\n{name} = refl\n")
+    };
+    case.equations.iter().map(claim).collect()
 }
 
 /// What the name of every claim begins with, and of nothing else.

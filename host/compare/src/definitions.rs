@@ -1,6 +1,5 @@
 //! The names of the definitions, read from the rules themselves.
 
-use std::collections::BTreeSet;
 use std::fs;
 use std::io;
 use std::path::Path;
@@ -20,35 +19,29 @@ impl Definitions {
             imports: String::new(),
             unfolded: Vec::new(),
         };
-        let mut taken = BTreeSet::new();
         let lib = fs::read_to_string(specs.join("Lib.antt"))?;
         for module in lib.lines().filter_map(|line| line.strip_prefix("pub mod ")) {
             let text = fs::read_to_string(specs.join(module).with_extension("antt"))?;
-            definitions.add(module, &text, &mut taken);
+            definitions.add(module, &text);
         }
         Ok(definitions)
     }
 
-    /// The definitions of one file. A name that an earlier file has is brought in with a prime.
-    fn add(&mut self, module: &str, text: &str, taken: &mut BTreeSet<String>) {
+    /// The definitions of one file. No two files have one of the same name.
+    fn add(&mut self, module: &str, text: &str) {
         let mut imports = Vec::new();
         for line in text.lines() {
             let unfoldable = declared(line, "unfoldable pub ");
             if let Some(name) = unfoldable.or_else(|| declared(line, "abbrev pub ")) {
-                let mut known = name.to_string();
-                let mut import = known.clone();
-                if !taken.insert(known.clone()) {
-                    known.push('′');
-                    import = format!("{name} as {known}");
-                }
-                imports.push(import);
+                imports.push(name);
                 if unfoldable.is_some() {
-                    self.unfolded.push(known);
+                    self.unfolded.push(name.to_string());
                 }
             }
         }
         let imports = imports.join(", ");
-        self.imports += &format!("use Rattle.rules.specs.{module}.{{{imports}}}\n");
+        let line = format!("use Rattle.rules.specs.{module}.{{{imports}}}\n");
+        self.imports += &line;
     }
 }
 

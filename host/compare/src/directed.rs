@@ -1,9 +1,9 @@
 //! Steps whose votes go on and whose pointers point, which random words seldom bring about.
 
+use generate::calls::{Call, StepCall};
+use generate::Random;
 use second::count::NONE;
-use second::generate::calls::{Call, StepCall};
 use second::params;
-use second::random::Random;
 use second::split::{BIG_M, SMALL_M, W};
 
 use crate::calls::answered;

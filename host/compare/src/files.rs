@@ -1,9 +1,9 @@
 //! Texts: digits, lines, and whole run files with the whole output.
 
-use second::generate::calls::no_digit;
-use second::generate::runfiles::{damaged, Damage, RunFile};
+use generate::calls::no_digit;
+use generate::runfiles::{damaged, Damage, RunFile};
+use generate::Random;
 use second::params;
-use second::random::Random;
 use second::runfile::run;
 use second::text::{line, read_words, write_words};
 

@@ -1,9 +1,9 @@
 //! The kinds of cases, which take turns.
 
-use second::generate::calls::{
+use generate::calls::{
     BeatCall, LagCall, ParametersCall, ReadCall, ShownCall, StepBytesCall, StepCall, WriteCall,
 };
-use second::random::Random;
+use generate::Random;
 
 use crate::case::Case;
 use crate::{calls, directed, files, level};

@@ -1,12 +1,11 @@
 //! The parts that a card's step is made of: parameters, halves, the reading of a word, and what
 //! happens to the eight words of a split group.
 
+use generate::{Random, Shape};
 use second::count;
-use second::generate::Shape;
 use second::group::Group;
 use second::king::{self, Output};
 use second::params;
-use second::random::Random;
 use second::split;
 
 use crate::case::Case;

@@ -82,7 +82,10 @@ pub fn refused_claims(said: &str) -> Refused {
             current = None;
         }
         if let Some(name) = current {
-            *refused.entry(name.to_string()).or_default() += &format!("{line}\n");
+            refused
+                .entry(name.to_string())
+                .or_default()
+                .extend([line, "\n"]);
         }
     }
     refused

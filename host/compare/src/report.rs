@@ -12,13 +12,14 @@ pub fn differences(cases: &[Case], refused: &Refused) -> String {
         let (kind, _) = kind_of(number);
         for equation in &case.equations {
             if let Some(said) = refused.get(&claim_name(number, &equation.about)) {
-                told += &format!(
+                let difference = format!(
                     "case {number}, {kind}: {}\ninputs: {}\ndefinition: {}\nsecond implementation: {}\n{said}\n",
                     equation.about,
                     case.inputs,
                     equation.term,
                     equation.value,
                 );
+                told += &difference;
             }
         }
     }

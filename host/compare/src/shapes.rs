@@ -1,9 +1,8 @@
 //! Shapes of racks that antt works through in a moment.
 
-use second::generate::Shape;
+use generate::{Random, Shape};
 use second::group::Group;
 use second::params::MOST_CARDS;
-use second::random::Random;
 
 /// A shape with at most so many cards, and seldom a large modulus: the smallest count heard more
 /// than f times is defined by a walk through all counts.

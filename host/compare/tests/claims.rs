@@ -31,11 +31,16 @@ fn the_definitions_are_read_from_the_rules() {
 }
 
 #[test]
-fn a_name_of_two_files_is_brought_in_twice() {
-    let Definitions { imports, unfolded } = definitions();
-    assert!(imports.contains(" beatRefusal,"));
-    assert!(imports.contains(" beatRefusal as beatRefusal′,"));
-    assert!(unfolded.contains(&"beatRefusal′".to_string()));
+fn one_name_is_one_definition() {
+    let imports = definitions().imports;
+    let names: Vec<&str> = imports
+        .lines()
+        .filter_map(|line| line.split_once('{')?.1.strip_suffix('}'))
+        .flat_map(|names| names.split(", "))
+        .collect();
+    assert!(names.len() > 100);
+    let distinct: BTreeSet<&str> = names.iter().copied().collect();
+    assert_eq!(distinct.len(), names.len());
 }
 
 #[test]

@@ -9,10 +9,10 @@ use compare::files::{damaged_files, digits, first_lines, good_file, one_line};
 use compare::kinds::{draw, Draw, KINDS};
 use compare::level::{cooldown, phase, three_steps, vote};
 use compare::value::Value;
-use second::generate::calls::{
+use generate::calls::{
     BeatCall, LagCall, ParametersCall, ReadCall, ShownCall, StepBytesCall, StepCall, WriteCall,
 };
-use second::random::Random;
+use generate::Random;
 
 /// The values that equations have in many cases of one kind, if their name begins so.
 fn values(draw: Draw, about: &str) -> Vec<Value> {

@@ -32,8 +32,15 @@ impl Copy {
     }
 
     fn take(&self, part: &str) {
-        let copied = Command::new("cp").arg("-R").arg(root().join(part)).arg(&self.folder).status();
-        assert!(copied.expect("cp starts").success(), "{part} could not be copied");
+        let copied = Command::new("cp")
+            .arg("-R")
+            .arg(root().join(part))
+            .arg(&self.folder)
+            .status();
+        assert!(
+            copied.expect("cp starts").success(),
+            "{part} could not be copied"
+        );
     }
 
     pub fn path(&self, file: &str) -> PathBuf {
@@ -42,7 +49,8 @@ impl Copy {
 
     pub fn write(&self, file: &str, text: &str) {
         let path = self.path(file);
-        fs::create_dir_all(path.parent().expect("a file stands in a folder")).expect("a folder for it");
+        fs::create_dir_all(path.parent().expect("a file stands in a folder"))
+            .expect("a folder for it");
         fs::write(path, text).expect("the file can be written");
     }
 
@@ -94,7 +102,13 @@ impl Ended {
 
     /// It failed, and told these lines alone.
     pub fn assert_told(&self, lines: &[&str]) {
-        assert_eq!(self.0.status.code(), Some(1), "{}{}", self.printed(), self.told());
+        assert_eq!(
+            self.0.status.code(),
+            Some(1),
+            "{}{}",
+            self.printed(),
+            self.told()
+        );
         let told = self.told();
         assert_eq!(told.lines().collect::<Vec<_>>(), lines);
     }

@@ -10,7 +10,10 @@ logic=proved functions=6 axioms=2 target=x86_64-unknown-linux-gnu sum=0
 /// A library, a library on it, and a program on both, with what the prover reported of each.
 fn copy(name: &str) -> Copy {
     let copy = Copy::of_scripts(name);
-    copy.write("crates.txt", "# NAME: what it stands on\nlow:\nhigh: low\nprogram: high io libc\n");
+    copy.write(
+        "crates.txt",
+        "# NAME: what it stands on\nlow:\nhigh: low\nprogram: high io libc\n",
+    );
     copy.write("crates/low/src/lib.rt", "");
     copy.write("crates/high/src/lib.rt", "");
     copy.write("crates/program/src/main.rt", "");
@@ -48,10 +51,18 @@ fn a_library_that_reaches_an_assumed_contract() {
 /// A count alone is enough, and so are functions that the library declares itself.
 #[test]
 fn a_library_that_only_counts_or_declares() {
-    for (word, found) in [("axioms=1", "axioms=1"), ("foreign=low::write", "foreign=low::write")] {
+    for (word, found) in [
+        ("axioms=1", "axioms=1"),
+        ("foreign=low::write", "foreign=low::write"),
+    ] {
         told(
             "declares",
-            |copy| copy.write("target/log/low.say", &format!("logic=proved functions=3 {word} sum=0\n")),
+            |copy| {
+                copy.write(
+                    "target/log/low.say",
+                    &format!("logic=proved functions=3 {word} sum=0\n"),
+                )
+            },
             &format!("assumptions: low rests on {found}"),
         );
     }
@@ -61,7 +72,12 @@ fn a_library_that_only_counts_or_declares() {
 fn a_library_on_one_that_is_not_ours() {
     told(
         "not-ours",
-        |copy| copy.write("crates.txt", "low: libc\nhigh: low\nprogram: high io libc\n"),
+        |copy| {
+            copy.write(
+                "crates.txt",
+                "low: libc\nhigh: low\nprogram: high io libc\n",
+            )
+        },
         "assumptions: low stands on libc, which is no library of ours",
     );
 }

@@ -65,8 +65,10 @@ fn a_routine_that_is_not_listed() {
     let promised = "ensures { λ r. ⌜ r ≡ x ⌝ }";
     let plain = format!("\npub fn extra(x: u32) -> u32\n    {promised}\n{{\n    x\n}}\n");
     let in_one_line = format!("\npub fn extra(x: u32) -> u32 {promised} {{ x }}\n");
-    let method = format!("\nimpl Column {{\n    pub fn extra(self, x: u32) -> u32 {promised} {{ x }}\n}}\n");
-    let inner = format!("\nmod inner {{ pub extern \"C\" fn extra(x: u32) -> u32 {promised} {{ x }} }}\n");
+    let method =
+        format!("\nimpl Column {{\n    pub fn extra(self, x: u32) -> u32 {promised} {{ x }}\n}}\n");
+    let inner =
+        format!("\nmod inner {{ pub extern \"C\" fn extra(x: u32) -> u32 {promised} {{ x }} }}\n");
     for (file, code, routine) in [
         (LAG, &plain, "lag::extra"),
         (COLUMNS, &in_one_line, "columns::extra"),
@@ -132,7 +134,13 @@ fn a_routine_that_is_public_and_internal() {
 fn an_internal_routine_that_no_other_crate_calls() {
     told(
         "not-called",
-        |copy| copy.replace("crates/card/src/lib.rt", "groups::step_group(", "groups::step_groups("),
+        |copy| {
+            copy.replace(
+                "crates/card/src/lib.rt",
+                "groups::step_group(",
+                "groups::step_groups(",
+            )
+        },
         &["contracts: groups::step_group: no other crate calls it"],
     );
 }
@@ -177,7 +185,8 @@ fn a_lemma_of_another_contract() {
         "by-hand",
         |copy| {
             let over = ": Determined lag-kinds.ps lag-kinds.r lag-reads.Pre lag-reads.Post";
-            let by_hand = ": (c x y : ℕ) (z w : ℤ) → z ≡ lagAnswer c x y → w ≡ lagAnswer c x y → z ≡ w";
+            let by_hand =
+                ": (c x y : ℕ) (z w : ℤ) → z ≡ lagAnswer c x y → w ≡ lagAnswer c x y → z ≡ w";
             copy.replace(LEMMAS, over, by_hand);
         },
         &["contracts: lag::lag_of: there is no lemma lag-determined over its contract"],
@@ -190,7 +199,9 @@ fn a_lemma_that_says_less() {
     let over = "Determined lag-kinds.ps lag-kinds.r lag-reads.Pre lag-reads.Post\n";
     let way_out = over.replace("Post\n", "Post ⊎ Unit\n");
     let on_the_next_line = over.replace("Post\n", "Post\n    ⊎ Unit\n");
-    let blind = over.replace("Determined", "DeterminedAs").replace("Post\n", "Post (λ κs. Unit) (λ κs r. tt)\n");
+    let blind = over
+        .replace("Determined", "DeterminedAs")
+        .replace("Post\n", "Post (λ κs. Unit) (λ κs r. tt)\n");
     for less in [way_out, on_the_next_line, blind] {
         told(
             "says-less",
@@ -210,7 +221,13 @@ fn a_lemma_of_another_meaning() {
     let ours = "use Rattle.rules.proofs.Determined.{Determined";
     told(
         "another-meaning",
-        |copy| copy.replace(LEMMAS, ours, "use Rattle.lag.proofs.Parts.{Determined"),
+        |copy| {
+            copy.replace(
+                LEMMAS,
+                ours,
+                "use Rattle.lag.proofs.Parts.{Determined",
+            )
+        },
         &OTHER_MEANING,
     );
     told(
@@ -233,7 +250,13 @@ fn an_edit_that_is_not_there() {
 fn one_edit_for_two() {
     told(
         "one-edit",
-        |copy| copy.replace(LIST, "`negative_half`, `wrong_way`", "`wrong_way`, `wrong_way`"),
+        |copy| {
+            copy.replace(
+                LIST,
+                "`negative_half`, `wrong_way`",
+                "`wrong_way`, `wrong_way`",
+            )
+        },
         &["contracts: lag::lag_of: one edit is named twice"],
     );
 }
@@ -242,7 +265,13 @@ fn one_edit_for_two() {
 fn edits_of_other_routines_alone() {
     told(
         "edits-elsewhere",
-        |copy| copy.replace(LIST, "`negative_half`, `wrong_way`", "`swapped_refusals`, `one_input_tested`"),
+        |copy| {
+            copy.replace(
+                LIST,
+                "`negative_half`, `wrong_way`",
+                "`swapped_refusals`, `one_input_tested`",
+            )
+        },
         &["contracts: lag::lag_of: neither edit is of its own body"],
     );
 }

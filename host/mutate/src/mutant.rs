@@ -79,7 +79,7 @@ fn number_repeated(mutants: &mut [Mutant]) {
         let count = seen.entry(mutant.what.clone()).or_insert(0);
         *count += 1;
         if *count > 1 {
-            mutant.what += &format!(" ({count})");
+            mutant.what = format!("{} ({count})", mutant.what);
         }
     }
 }

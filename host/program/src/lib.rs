@@ -54,7 +54,9 @@ pub fn output_of(pieces: &[&[u8]]) -> Vec<u8> {
     let written = thread::scope(|scope| {
         scope.spawn(move || pieces.iter().all(|piece| send(&mut input, piece)));
         let mut written = Vec::new();
-        output.read_to_end(&mut written).expect("its output can be read");
+        output
+            .read_to_end(&mut written)
+            .expect("its output can be read");
         written
     });
     assert!(child.wait().expect("the program ends").success());

@@ -9,10 +9,9 @@ use std::path::PathBuf;
 use std::process::{Child, Command, ExitStatus, Output, Stdio};
 use std::thread;
 
+use generate::runfiles::RunFile;
+use generate::{Random, Shape};
 use program::{launcher, root, send, wanted};
-use second::generate::runfiles::RunFile;
-use second::generate::Shape;
-use second::random::Random;
 
 const UNREAD: &str = "blockrun: the input could not be read\n";
 const UNWRITTEN: &str = "blockrun: the output could not be written\n";
@@ -192,7 +191,10 @@ fn states(group: u32) -> Vec<String> {
 fn wait_until_all(state: &str, group: u32) {
     let mut found = states(group);
     while found.iter().any(|other| other != state) {
-        assert!(found.iter().any(|other| other != "Z"), "the launcher has ended");
+        assert!(
+            found.iter().any(|other| other != "Z"),
+            "the launcher has ended"
+        );
         thread::yield_now();
         found = states(group);
     }

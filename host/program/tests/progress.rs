@@ -4,10 +4,9 @@ use std::fs;
 use std::path::{Path, PathBuf};
 use std::process::{Command, Output, Stdio};
 
+use generate::runfiles::RunFile;
+use generate::{Random, Shape};
 use program::root;
-use second::generate::runfiles::RunFile;
-use second::generate::Shape;
-use second::random::Random;
 use second::runfile::run;
 
 /// What ends the progress line: back to its start, and all erased.
@@ -15,7 +14,11 @@ const ERASED: &[u8] = b"\r\x1b[K";
 
 /// A run file of so many beats of about 8,000 bytes each, and what it prints.
 fn run_file(name: &str, beats: usize) -> (PathBuf, Vec<u8>) {
-    let shape = Shape { n: 16, f: 5, c: 65_535 };
+    let shape = Shape {
+        n: 16,
+        f: 5,
+        c: 65_535,
+    };
     let text = RunFile::of_length(&mut Random::new(107), shape, 0b11111, beats).text();
     let path = Path::new(env!("CARGO_TARGET_TMPDIR")).join(name);
     fs::write(&path, &text).expect("the run file can be written");
@@ -32,7 +35,11 @@ fn finished(command: &mut Command) -> Output {
 
 /// All that a terminal receives from the launcher, which has it for both outputs.
 fn on_terminal(path: &Path) -> Vec<u8> {
-    let run = format!("'{}' run '{}'", root().join("tsendurkho").display(), path.display());
+    let run = format!(
+        "'{}' run '{}'",
+        root().join("tsendurkho").display(),
+        path.display()
+    );
     let script = ["--quiet", "--return", "--command", &run, "/dev/null"];
     finished(Command::new("script").args(script)).stdout
 }

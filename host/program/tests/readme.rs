@@ -37,9 +37,13 @@ fn place() -> PathBuf {
     let root = root().canonicalize().expect("the repository is there");
     symlink(root.join("examples"), place.join("examples")).expect("a link can be made");
     let launcher = place.join("tsendurkho");
-    let script = format!("#!/bin/sh\nexec '{}' \"$@\"\n", root.join("tsendurkho").display());
+    let script = format!(
+        "#!/bin/sh\nexec '{}' \"$@\"\n",
+        root.join("tsendurkho").display()
+    );
     fs::write(&launcher, script).expect("the launcher's stand-in can be written");
-    fs::set_permissions(&launcher, Permissions::from_mode(0o755)).expect("it can be made a program");
+    fs::set_permissions(&launcher, Permissions::from_mode(0o755))
+        .expect("it can be made a program");
     place
 }
 
@@ -58,7 +62,11 @@ fn printed(place: &Path, commands: &str) -> String {
         .env("RUSTUP_HOME", compilers())
         .output()
         .expect("sh starts");
-    assert!(output.status.success(), "{commands}\n{}", String::from_utf8_lossy(&output.stderr));
+    assert!(
+        output.status.success(),
+        "{commands}\n{}",
+        String::from_utf8_lossy(&output.stderr)
+    );
     String::from_utf8(output.stdout).expect("what is printed is text")
 }
 
@@ -75,7 +83,10 @@ fn commands_print_what_is_said() {
         fs::write(place.join("count.c"), &block.text).expect("count.c can be written");
     }
     let is = |block: &Block, language: &str| block.language == language;
-    let told: Vec<_> = blocks.iter().filter(|block| is(block, "sh") || is(block, "text")).collect();
+    let told: Vec<_> = blocks
+        .iter()
+        .filter(|block| is(block, "sh") || is(block, "text"))
+        .collect();
     let (mut all, mut compared) = (String::new(), 0);
     for (number, block) in told.iter().enumerate().filter(|(_, block)| is(block, "sh")) {
         let lines = block.text.lines().filter(|line| !line.starts_with(GATE));
@@ -91,7 +102,10 @@ fn commands_print_what_is_said() {
         all += &output;
     }
     assert_eq!(compared, if links_here(&place) { 2 } else { 1 });
-    assert!(all.contains("usage: ./tsendurkho COMMAND"), "the other commands are not told");
+    assert!(
+        all.contains("usage: ./tsendurkho COMMAND"),
+        "the other commands are not told"
+    );
     let [drawn, shown] = [place.join("counts.svg"), root().join("docs/counts.svg")].map(fs::read);
     assert!(drawn.expect("a picture is drawn") == shown.expect("docs/counts.svg can be read"));
 }

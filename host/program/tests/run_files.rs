@@ -4,10 +4,9 @@ use std::fs::{self, File};
 use std::path::Path;
 use std::process::{Command, Stdio};
 
+use generate::runfiles::{damaged, Damage, RunFile};
+use generate::{Random, Shape};
 use program::{launcher, output_of, root, send, wanted};
-use second::generate::runfiles::{damaged, Damage, RunFile};
-use second::generate::Shape;
-use second::random::Random;
 
 /// A text cut in pieces of one byte up to this many.
 fn pieces<'a>(random: &mut Random, text: &'a [u8], longest: usize) -> Vec<&'a [u8]> {
@@ -114,7 +113,11 @@ fn the_examples_print_what_stands_beside_them() {
 #[test]
 fn output_comes_before_the_input_ends() {
     let mut random = Random::new(106);
-    let shape = Shape { n: 16, f: 5, c: 65_535 };
+    let shape = Shape {
+        n: 16,
+        f: 5,
+        c: 65_535,
+    };
     let text = RunFile::of_length(&mut random, shape, 0b11111, 300).text();
     let printed = Path::new(env!("CARGO_TARGET_TMPDIR")).join("before-the-end.txt");
     let mut child = Command::new(launcher())
@@ -132,6 +135,9 @@ fn output_comes_before_the_input_ends() {
     let whole = wanted(&text);
     assert!(whole.starts_with(&early));
     let lines = early.iter().filter(|&&byte| byte == b'\n').count();
-    assert!(lines >= 100, "{lines} lines of 301 came before the input ended");
+    assert!(
+        lines >= 100,
+        "{lines} lines of 301 came before the input ended"
+    );
     assert!(fs::read(&printed).expect("what is printed") == whole);
 }

@@ -1,14 +1,13 @@
 //! What must hold for every input, tried on many generated ones.
 
+use generate::calls::{BeatCall, Call, StepBytesCall, StepCall};
+use generate::{Random, Shape};
 use second::card::{shown, step};
-use second::generate::calls::{BeatCall, Call, StepBytesCall, StepCall};
-use second::generate::Shape;
 use second::lag::lag;
 use second::params::parameters;
-use second::random::Random;
 use second::text::{read_record, write_record};
 
-/// How the paper reads one word of a card's record, and what may be written there.
+/// How one word of a card's record is read (RULES 4.2), and what may be written there.
 #[derive(Clone, Copy, Debug)]
 enum Kind {
     /// m0, m1, or the a of a group with f = 0: always written below its modulus.
@@ -17,7 +16,7 @@ enum Kind {
     CountOrNone(u16),
     Cooldown(u16),
     Flag,
-    /// "Words beyond are written 0 and never read."
+    /// RULES 4.1: "Words beyond these are written 0 and never read."
     Beyond,
 }
 

@@ -2,10 +2,9 @@
 
 use std::io::{self, BufReader, Read, Write};
 
+use generate::runfiles::{damaged, frame, header, joined, Damage, RunFile, Verdict};
+use generate::{Random, Shape};
 use second::card::shown;
-use second::generate::runfiles::{damaged, frame, header, joined, Damage, RunFile, Verdict};
-use second::generate::Shape;
-use second::random::Random;
 use second::refusal::Refusal;
 use second::runfile::run;
 use second::text::{line, read_words};

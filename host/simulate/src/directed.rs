@@ -5,9 +5,9 @@
 //! keeps out of step with the good half's. So while the good half points to itself and the bad
 //! half to itself too, the sound cards take different steps and obey different kings.
 
+use generate::Random;
 use second::count::{self, NONE};
 use second::params;
-use second::random::Random;
 use second::split;
 
 use crate::divide::divide;

@@ -2,8 +2,8 @@
 
 use std::ops::Range;
 
+use generate::Shape;
 use second::count;
-use second::generate::Shape;
 use second::group::Group;
 use second::split;
 

@@ -1,6 +1,6 @@
 //! Broken cards that each keep to a strategy.
 
-use second::random::Random;
+use generate::Random;
 
 use crate::scene::{Adversary, Scene};
 use crate::strategy::{Strategy, Telling};

@@ -1,6 +1,7 @@
 //! Outcomes as text.
 
 use std::collections::BTreeMap;
+use std::iter;
 
 use second::params::MOST_BROKEN;
 
@@ -8,46 +9,50 @@ use crate::survey::{late, latest, Outcome, Survey};
 
 /// One row for each f: the runs, T(f), and the run that agreed last.
 pub fn table(survey: &Survey) -> String {
-    let mut text = " f   runs  T(f)  latest  of T(f)  lies         n      c    seed\n".to_string();
-    for f in 0..=MOST_BROKEN {
-        let runs = survey.with_f(f);
-        if let Some(last) = latest(&runs) {
-            text += &format!(
-                "{f:2} {:6} {:5}  {:>6}  {:>7}  {:<10}  {:2}  {:5}  {:6}\n",
-                runs.len(),
-                last.bound,
-                beat(&last),
-                percent(&last),
-                last.lies,
-                last.shape.n,
-                last.shape.c,
-                last.seed,
-            );
-        }
-    }
-    text
+    let heading = " f   runs  T(f)  latest  of T(f)  lies         n      c    seed\n";
+    let rows = (0..=MOST_BROKEN).filter_map(|f| row(f, &survey.with_f(f)));
+    iter::once(heading.to_string()).chain(rows).collect()
+}
+
+fn row(f: u32, runs: &[Outcome]) -> Option<String> {
+    let last = latest(runs)?;
+    Some(format!(
+        "{f:2} {:6} {:5}  {:>6}  {:>7}  {:<10}  {:2}  {:5}  {:6}\n",
+        runs.len(),
+        last.bound,
+        beat(&last),
+        percent(&last),
+        last.lies,
+        last.shape.n,
+        last.shape.c,
+        last.seed,
+    ))
 }
 
 /// One row for each f above 0: the runs, T(f), and for each cooldown the latest agreement and
 /// how many runs were late.
 pub fn side_by_side(surveys: &[Survey]) -> String {
+    let names = surveys.iter().map(|survey| survey.cooldown.name);
     let mut text = " f   runs  T(f)".to_string();
-    for survey in surveys {
-        text += &format!("  | {:>4}: latest  of T(f)   late", survey.cooldown.name);
-    }
+    text.extend(names.map(|name| format!("  | {name:>4}: latest  of T(f)   late")));
     for f in 1..=MOST_BROKEN {
-        for (place, survey) in surveys.iter().enumerate() {
-            let runs = survey.with_f(f);
-            if let Some(last) = latest(&runs) {
-                if place == 0 {
-                    text += &format!("\n{f:2} {:6} {:5}", runs.len(), last.bound);
-                }
-                let (beat, percent, late) = (beat(&last), percent(&last), late(&runs).len());
-                text += &format!("  | {beat:>12}  {percent:>7}  {late:5}");
-            }
-        }
+        let cells = surveys.iter().enumerate();
+        text.extend(cells.filter_map(|(place, survey)| cell(f, place == 0, survey)));
     }
     text + "\n"
+}
+
+/// One cooldown's part of a row; the first starts the row.
+fn cell(f: u32, first: bool, survey: &Survey) -> Option<String> {
+    let runs = survey.with_f(f);
+    let last = latest(&runs)?;
+    let start = if first {
+        format!("\n{f:2} {:6} {:5}", runs.len(), last.bound)
+    } else {
+        String::new()
+    };
+    let (beat, percent, late) = (beat(&last), percent(&last), late(&runs).len());
+    Some(format!("{start}  | {beat:>12}  {percent:>7}  {late:5}"))
 }
 
 /// How many runs with broken cards were tried with each kind of lies.

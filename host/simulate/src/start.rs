@@ -1,8 +1,7 @@
 //! The words that the cards hold when a run starts.
 
+use generate::{Random, Shape};
 use second::count::NONE;
-use second::generate::Shape;
-use second::random::Random;
 use second::split;
 
 use crate::level::{moved, stepped, Level};

@@ -1,8 +1,8 @@
 //! The kinds of lying card.
 
+use generate::Random;
 use second::count::NONE;
 use second::params;
-use second::random::Random;
 use second::split;
 
 use crate::level::{moved, stepped, Level};

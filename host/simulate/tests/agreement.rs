@@ -2,8 +2,7 @@
 
 use std::collections::BTreeSet;
 
-use second::generate::Shape;
-use second::random::Random;
+use generate::{Random, Shape};
 use simulate::cooldown::RIGHT;
 use simulate::plan::{Lies, Plan};
 use simulate::start::Start;

@@ -1,7 +1,6 @@
 //! The directed adversary: what it does to the cards, and that it is still too weak.
 
-use second::generate::Shape;
-use second::random::Random;
+use generate::{Random, Shape};
 use simulate::cooldown::{Cooldown, RIGHT, TOO_SOON};
 use simulate::directed::Directed;
 use simulate::level::Level;

@@ -1,8 +1,7 @@
 //! Every kind of lying card lies, each in its own way.
 
+use generate::{Random, Shape};
 use second::count::NONE;
-use second::generate::Shape;
-use second::random::Random;
 use second::split;
 use simulate::cooldown::RIGHT;
 use simulate::level::{moved, Level};

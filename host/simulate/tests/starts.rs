@@ -1,7 +1,6 @@
 //! The words that runs start from.
 
-use second::generate::Shape;
-use second::random::Random;
+use generate::{Random, Shape};
 use simulate::cooldown::RIGHT;
 use simulate::level::Level;
 use simulate::liars::Liars;

@@ -7,14 +7,14 @@ use native.Mathlib.Omega.{arith}
 use lib.ListN.{length, drop}
 use lib.Seq.{length-sets, length-take-le}
 use Rattle.feed.specs.Feeds.{fed}
-use Rattle.feed.specs.Calls.{feedOf, goingOn}
+use Rattle.feed.specs.Calls.{machineOf, goingOn}
 use Rattle.feed.proofs.Whole.{part-fed, all-fed}
 use Rattle.blockrun.proofs.run_piece.Statement.{statement}
 use Rattle.blockrun.proofs.run_piece.Tie as tie
 
 abbrev Inv-loop : tie.InvT-loop
 Inv-loop piece line₀ table₀ state₀ whole₀ at₀ line table state whole at =
-    goingOn (fed (feedOf state line table) (drop at piece)) ≡ goingOn (fed (feedOf state₀ line₀ table₀) piece)
+    goingOn (fed (machineOf state line table) (drop at piece)) ≡ goingOn (fed (machineOf state₀ line₀ table₀) piece)
 
 abbrev μ-loop : tie.MeasureT-loop
 μ-loop piece line₀ table₀ state₀ whole₀ at₀ line table state whole at = length piece - at
@@ -29,7 +29,8 @@ loop-again : tie.Need-loop-again Inv-loop μ-loop
 loop-again c =
     let f = c .before .before in
     let l = f .before .before .before .before .before in
-    part-fed _ (l .before .before .args .piece .now) (l .loop .at) _ _ _ (f .feed-from .result) _ _ _ (f .feed-from .ensures) ∙ l .loop .inv
+    let piece = l .before .before .args .piece .now in
+    part-fed _ piece (l .loop .at) _ _ _ (f .feed-from .result) _ _ _ (f .feed-from .ensures) ∙ l .loop .inv
 
 returns : tie.Need-returns Inv-loop μ-loop
 returns c =

@@ -3,7 +3,7 @@ use borrow.Author.Needs.{needs}
 use mathlib.Core.Path.{sym}
 use lib.ListN.{take}
 use lib.Seq.{length-take-le}
-use Rattle.runfile.specs.Runs.{standing}
+use Rattle.runfile.specs.Runs.{stageOf}
 use Rattle.feed.specs.Feeds.{ended}
 use Rattle.feed.proofs.Calls.{taken-not-0, accepted-sized, accepted-short, ends-refused, ends-accepted}
 use Rattle.feed.proofs.end_line.Statement.{statement}
@@ -16,7 +16,7 @@ refused c =
     let a = t .before .before .before .before .before .before .args in
     let p = c .put-refusal .ensures in
     let n = c .before .before .number-of .ensures in
-    ends-refused (a .run) _ (a .table .now) (a .out .now) (a .line .now) (t .line-taken .result) _ _ _ _ (t .line-taken .ensures) (c .before .before .before .if1 .taken) (rw n at (p .0)) (rw n at (p .1))
+    ends-refused (a .stage) _ (a .table .now) (a .out .now) (a .line .now) (t .line-taken .result) _ _ _ _ (t .line-taken .ensures) (c .before .before .before .if1 .taken) (rw n at (p .0)) (rw n at (p .1))
 
 accepted : tie.Need-returns-2
 unfolding ended
@@ -25,9 +25,9 @@ accepted c =
     let s = t .before .before .before .before .before .before in
     let a = s .args in
     let line = take (a .held) (a .line .now) in
-    let run = standing (a .run) (a .table .now) in
-    ends-accepted (a .run) _ (a .table .now) (a .out .now) (a .line .now) (t .line-taken .result) _ _
-    (taken-not-0 run line) (λ next text e. (accepted-sized run next line text _ e (s .pre .1), accepted-short run next line text e)) (t .line-taken .ensures) (c .if1 .left)
+    let stage = stageOf (a .stage) (a .table .now) in
+    ends-accepted (a .stage) _ (a .table .now) (a .out .now) (a .line .now) (t .line-taken .result) _ _
+    (taken-not-0 stage line) (λ next text e. (accepted-sized stage next line text _ e (s .pre .1), accepted-short stage next line text e)) (t .line-taken .ensures) (c .if1 .left)
 
 pub end-line-spec : {M : Type 1} → statement M
 end-line-spec =

@@ -5,9 +5,9 @@ use Prim.Native.Nat.{_-_}
 use native.Mathlib.Omega.{arith}
 use lib.ListN.{take, drop, length-take}
 use Rattle.text.proofs.FirstLine.{end-within}
-use Rattle.runfile.specs.Runs.{standing}
+use Rattle.runfile.specs.Runs.{stageOf}
 use Rattle.feed.specs.Feeds.{longest}
-use Rattle.feed.specs.Calls.{feedOf}
+use Rattle.feed.specs.Calls.{machineOf}
 use Rattle.feed.proofs.Calls.{fed-held, fed-ended, holds-stands}
 use Rattle.feed.proofs.feed_part.Statement.{statement}
 use Rattle.feed.proofs.feed_part.Tie as tie
@@ -18,7 +18,7 @@ hold-requires c κs =
     (s .pre .2, omega (arith, s .pre .1), rw (s .pre .1) (end-within (s .args .piece .now) (s .args .from) (s .pre .0)))
 
 unfinished : tie.Need-returns
-unfolding feedOf
+unfolding machineOf
 unfinished c =
     let k = c .before .before .before in
     let h = k .hold in
@@ -26,8 +26,8 @@ unfinished c =
     let a = s .args in
     let part = take (a .end - a .from) (drop (a .from) (a .piece .now)) in (
       h .ensures .kept,
-      rw (fed-held (a .line .now) (a .held) (s .pre .2) (standing (a .run) (a .table .now)) (a .piece .now) (a .from) (a .end) (s .pre .0) (s .pre .1) (c .if1 .taken))
-          (holds-stands (a .run) (a .held) (h .result) (a .line .now) part (a .table .now) (a .out .now) _ (h .ensures)),
+      rw (fed-held (a .line .now) (a .held) (s .pre .2) (stageOf (a .stage) (a .table .now)) (a .piece .now) (a .from) (a .end) (s .pre .0) (s .pre .1) (c .if1 .taken))
+          (holds-stands (a .stage) (a .held) (h .result) (a .line .now) part (a .table .now) (a .out .now) _ (h .ensures)),
     )
 
 end-line-requires : tie.Need-end-line-requires
@@ -39,7 +39,7 @@ end-line-requires c κs =
     (omega (arith, s .pre .2, h .hold .kept .0, h .hold .ensures .count, length-take longest (take (a .held) (a .line .now) ++ part)), s .pre .3)
 
 finished : tie.Need-returns-2
-unfolding feedOf
+unfolding machineOf
 finished c =
     let t = c .before .before in
     let e = t .before .before .before .before in
@@ -49,7 +49,7 @@ finished c =
     let a = s .args in
     let l = end-within (a .piece .now) (a .from) (s .pre .0) in (
       h .ensures .kept,
-      rw (fed-ended (a .line .now) (a .held) (s .pre .2) (standing (a .run) (a .table .now)) (a .piece .now) (a .from) (a .end) (s .pre .0) (s .pre .1) (omega (arith, l, s .pre .1, e .if1 .left)))
+      rw (fed-ended (a .line .now) (a .held) (s .pre .2) (stageOf (a .stage) (a .table .now)) (a .piece .now) (a .from) (a .end) (s .pre .0) (s .pre .1) (omega (arith, l, s .pre .1, e .if1 .left)))
           (rw (h .ensures .whole) at (t .end-line .ensures)),
     )
 

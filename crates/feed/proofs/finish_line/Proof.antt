@@ -5,7 +5,7 @@ use mathlib.Core.Logic.{_⊎_, ⊎-elim}
 use mathlib.Core.List.{[]}
 use native.Mathlib.Omega.{arith}
 use lib.ListN.{length, take}
-use Rattle.runfile.specs.Runs.{standing}
+use Rattle.runfile.specs.Runs.{stageOf}
 use Rattle.feed.specs.Feeds.{ended}
 use Rattle.feed.specs.Calls.{missing, writtenBy, Stands}
 use Rattle.feed.proofs.Calls.{held-min, finishes-none, finishes-refused, finishes-accepted, finished-is, one-written}
@@ -15,12 +15,12 @@ use Rattle.feed.proofs.finish_line.Tie as tie
 none : tie.Need-returns
 none c =
     let a = c .before .before .before .before .before .args in
-    finishes-none (a .run) (a .held) (a .line .now) (a .table .now) (a .out .now) _ _ (c .before .before .if1 .taken) (c .put-missing .ensures .0) (c .put-missing .ensures .1)
+    finishes-none (a .stage) (a .held) (a .line .now) (a .table .now) (a .out .now) _ _ (c .before .before .if1 .taken) (c .put-missing .ensures .0) (c .put-missing .ensures .1)
 
 -- where the machine stands after the last line
 stands : (c : tie.After-end-line)
     → Stands
-    (ended (standing (c .before .before .before .before .before .before .before .args .run) (c .before .before .before .before .before .before .before .args .table .now)) (take (c .before .before .before .before .before .before .before .args .held) (c .before .before .before .before .before .before .before .args .line .now)) [])
+    (ended (stageOf (c .before .before .before .before .before .before .before .args .stage) (c .before .before .before .before .before .before .before .args .table .now)) (take (c .before .before .before .before .before .before .before .args .held) (c .before .before .before .before .before .before .before .args .line .now)) [])
     (c .end-line .result .feed) (c .end-line .result .written) (c .before .before .before .before .before .before .before .args .table .now) (c .before .before .before .before .before .before .before .args .out .now)
     (c .before .before .before .before .before .before .before .args .line .now) (c .end-line .last .1 .1 .1 .0) (c .end-line .last .1 .1 .1 .1 .0)
 stands c =
@@ -35,11 +35,11 @@ refused c =
     let s = e .before .before .before in
     let a = s .args in
     finishes-refused _ _ (a .table .now) (a .out .now) (a .line .now) _ _ _ _
-    (finished-is (a .run) (a .held) (a .line .now) (a .table .now) (s .pre .0) (omega (arith, e .if1 .left))) (c .enum-told .given .1) (stands t)
+    (finished-is (a .stage) (a .held) (a .line .now) (a .table .now) (s .pre .0) (omega (arith, e .if1 .left))) (c .enum-told .given .1) (stands t)
 
 -- one of the two is empty
 one : (c : tie.After-last)
-    → (writtenBy (ended (standing (c .before .before .before .before .before .before .before .before .before .before .before .args .run) (c .before .before .before .before .before .before .before .before .before .before .before .args .table .now)) (take (c .before .before .before .before .before .before .before .before .before .before .before .args .held) (c .before .before .before .before .before .before .before .before .before .before .before .args .line .now)) []) ≡ [])
+    → (writtenBy (ended (stageOf (c .before .before .before .before .before .before .before .before .before .before .before .args .stage) (c .before .before .before .before .before .before .before .before .before .before .before .args .table .now)) (take (c .before .before .before .before .before .before .before .before .before .before .before .args .held) (c .before .before .before .before .before .before .before .before .before .before .before .args .line .now)) []) ≡ [])
     ⊎ (missing (c .last .given .0 .0) ≡ [])
 one c = one-written _ _ _ (c .last .given .0 .1 .0) (sym (stands (c .before .before .before .before) .feed-is) ∙ c .last .given .1)
 
@@ -60,7 +60,7 @@ accepted c =
     let s = e .before .before .before in
     let a = s .args in
     finishes-accepted _ _ (a .table .now) (a .out .now) (a .line .now) _ _ _ _ _ (k .last .given .0 .1 .0) _ _
-    (finished-is (a .run) (a .held) (a .line .now) (a .table .now) (s .pre .0) (omega (arith, e .if1 .left))) (k .last .given .1) (one k) (stands t) (c .put-missing2 .ensures .0) (c .put-missing2 .ensures .1)
+    (finished-is (a .stage) (a .held) (a .line .now) (a .table .now) (s .pre .0) (omega (arith, e .if1 .left))) (k .last .given .1) (one k) (stands t) (c .put-missing2 .ensures .0) (c .put-missing2 .ensures .1)
 
 pub finish-line-spec : {M : Type 1} → statement M
 finish-line-spec =

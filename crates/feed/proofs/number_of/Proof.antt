@@ -14,7 +14,7 @@ start c = rw (c .enum-told2 .given .1)
 
 beat : tie.Need-returns-3
 unfolding numberOf
-beat c = rw (c .before .run .given .1)
+beat c = rw (c .before .stage .given .1)
 
 pub number-of-spec : {M : Type 1} → statement M
 number-of-spec =

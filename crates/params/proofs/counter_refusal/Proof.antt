@@ -3,7 +3,7 @@ use borrow.Author.Needs.{needs}
 use mathlib.Core.Path.{_≡_, sym, _∙_}
 use Prim.Native.Nat.{ℕ}
 use Rattle.rules.specs.Parameters.{badCards, badBroken, badModulus}
-use Rattle.rules.specs.Refusals.{given, shapeRefusal}
+use Rattle.rules.specs.Refusals.{given, counterRefusal}
 use Rattle.rules.proofs.Shapes.{shape-refused, shape-passed}
 use Rattle.params.proofs.counter_refusal.Statement.{statement}
 use Rattle.params.proofs.counter_refusal.Tie as tie
@@ -15,7 +15,7 @@ refused c =
 
 -- refusals 1 and 2 are not given
 later : (c : tie.After-modulus-refused)
-    → shapeRefusal (c .before .before .before .args .n) (c .before .before .before .args .f) (c .before .before .before .args .c) 0
+    → counterRefusal (c .before .before .before .args .n) (c .before .before .before .args .f) (c .before .before .before .args .c) 0
     ≡ given 3 (c .modulus-refused .result) 0
 later c =
     let a = c .before .before .before .args in

@@ -1,8 +1,8 @@
 -- `runfile::line_taken` meets its contract, case by case.
 use borrow.Author.Needs.{needs}
 use mathlib.Core.Path.{_≡_, sym, _∙_}
-use Rattle.runfile.specs.declared.Run.the-variants.{AtHeader, AtStart, AtBeat}
-use Rattle.runfile.specs.Runs.{keptTests, standing, takenLine}
+use Rattle.runfile.specs.declared.Stage.the-variants.{AtHeader, AtStart, AtBeat}
+use Rattle.runfile.specs.Runs.{keptTests, stageOf, takenLine}
 use Rattle.runfile.proofs.Takes.{refused-takes, tests-kept, header-takes, takes-as}
 use Rattle.runfile.proofs.line_taken.Statement.{statement}
 use Rattle.runfile.proofs.line_taken.Tie as tie
@@ -11,49 +11,49 @@ refused : tie.Need-returns
 unfolding takenLine
 refused c =
     let a = c .before .before .before .before .args in
-    refused-takes _ _ _ _ _ _ (c .before .run-tests .ensures ∙ sym (tests-kept (a .run) (a .table .now))) (c .if1 .taken)
+    refused-takes _ _ _ _ _ _ (c .before .stage-tests .ensures ∙ sym (tests-kept (a .stage) (a .table .now))) (c .if1 .taken)
 
 -- the run passes its tests
-none : (c : tie.Else1) → keptTests (c .before .before .before .before .args .run) ≡ 0
-none c = sym (c .before .run-tests .ensures) ∙ c .if1 .left
+none : (c : tie.Else1) → keptTests (c .before .before .before .before .args .stage) ≡ 0
+none c = sym (c .before .stage-tests .ensures) ∙ c .if1 .left
 
 header : tie.Need-returns-2
-unfolding standing
+unfolding stageOf
 header c =
     let e = c .before .before .before in
     let a = e .before .before .before .before .args in
-    takes-as (a .run) AtHeader (a .table .now) (a .line .now) (a .out .now) _ _ _ (c .before .enum-told .given .1) (none e)
+    takes-as (a .stage) AtHeader (a .table .now) (a .line .now) (a .out .now) _ _ _ (c .before .enum-told .given .1) (none e)
     (header-takes (a .line .now) (a .table .now) (a .out .now) _ (c .take-header .ensures))
 
 start : tie.Need-returns-3
-unfolding standing
+unfolding stageOf
 start c =
     let t = c .before .before in
     let k = t .before .before .before .before in
     let e = k .before .before in
     let a = e .before .before .before .before .args in
-    takes-as (a .run) (AtStart (k .run .given .0 .0)) (a .table .now) (a .line .now) (a .out .now) _ _ _ (k .run .given .1) (none e) (t .take-start .ensures)
+    takes-as (a .stage) (AtStart (k .stage .given .0 .0)) (a .table .now) (a .line .now) (a .out .now) _ _ _ (k .stage .given .1) (none e) (t .take-start .ensures)
 
 beat : tie.Need-returns-4
-unfolding standing
+unfolding stageOf
 beat c =
     let t = c .before .before in
     let k = t .before .before .before .before in
     let e = k .before .before in
     let a = e .before .before .before .before .args in
-    takes-as (a .run) (AtBeat (k .run2 .given .0 .0) (k .run2 .given .0 .1 .0)) (a .table .now) (a .line .now) (a .out .now) _ _ _ (k .run2 .given .1) (none e) (t .take-beat .ensures)
+    takes-as (a .stage) (AtBeat (k .stage2 .given .0 .0) (k .stage2 .given .0 .1 .0)) (a .table .now) (a .line .now) (a .out .now) _ _ _ (k .stage2 .given .1) (none e) (t .take-beat .ensures)
 
 take-start-requires : tie.Need-take-start-requires
 unfolding keptTests
 take-start-requires c κs =
     let k = c .before .before .before in
-    (rw (k .run .given .1) at (none (k .before .before)), search needs)
+    (rw (k .stage .given .1) at (none (k .before .before)), search needs)
 
 take-beat-requires : tie.Need-take-beat-requires
 unfolding keptTests
 take-beat-requires c κs =
     let k = c .before .before .before in
-    (rw (k .run2 .given .1) at (none (k .before .before)), search needs)
+    (rw (k .stage2 .given .1) at (none (k .before .before)), search needs)
 
 pub line-taken-spec : {M : Type 1} → statement M
 line-taken-spec =

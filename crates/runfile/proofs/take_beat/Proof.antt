@@ -6,20 +6,20 @@ use Prim.Native.Nat.{_+_, _≤_}
 use native.Mathlib.Omega.{arith}
 use lib.ListN.{length}
 use Rattle.rules.specs.Text.{wellFormed}
-use Rattle.rules.specs.RunFile.{frameDigits, startWords, beatWords, lastBeat, beatRefusal, outputLine, atBeat, takeLine}
+use Rattle.rules.specs.RunFile.{frameDigits, startWords, beatWords, lastBeat, beatLineRefusal, outputLine, atBeat, takeLine}
 use Rattle.rules.proofs.RunFiles.{beat-formed}
 use Rattle.frames.specs.Headers.{said}
 use Rattle.frames.proofs.Headers.{start-most}
 use Rattle.frames.proofs.Shown.{line-of-stored}
-use Rattle.runfile.specs.declared.Run.the-variants.{AtBeat}
-use Rattle.runfile.specs.Runs.{standing, keptOf, tableOf, tableNext}
+use Rattle.runfile.specs.declared.Stage.the-variants.{AtBeat}
+use Rattle.runfile.specs.Runs.{stageOf, keptOf, tableOf, tableNext}
 use Rattle.runfile.proofs.Takes.{refused-takes, accepted-takes, next-length}
 use Rattle.runfile.proofs.take_beat.Statement.{statement}
 use Rattle.runfile.proofs.take_beat.Tie as tie
 
 refused : tie.Need-returns
-unfolding takeLine standing
-refused c = refused-takes _ _ _ _ _ _ (c .before .beat-refusal .ensures) (c .if1 .taken)
+unfolding takeLine stageOf
+refused c = refused-takes _ _ _ _ _ _ (c .before .beat-line-refusal .ensures) (c .if1 .taken)
 
 -- the line is well formed, its beat is no later than the last, and the records fit the table
 good : (c : tie.Else1)
@@ -29,7 +29,7 @@ good : (c : tie.Else1)
 good c =
     let s = c .before .before .before .before in
     let a = s .args in
-    let f = beat-formed (said (a .h)) (a .beat) (a .line .now) (sym (c .before .beat-refusal .ensures) ∙ c .if1 .left) in
+    let f = beat-formed (said (a .h)) (a .beat) (a .line .now) (sym (c .before .beat-line-refusal .ensures) ∙ c .if1 .left) in
     (f .0, f .1, omega (arith, start-most (said (a .h)) (s .pre .0), s .pre .1))
 
 next-table-requires : tie.Need-next-table-requires
@@ -45,7 +45,7 @@ put-line-requires c κs =
     (e .before .before .before .before .pre .0, omega (arith, good e .2, t .next-table .kept .1 .1 .0))
 
 accepted-beat : tie.Need-returns-2
-unfolding takeLine standing keptOf tableOf
+unfolding takeLine stageOf keptOf tableOf
 accepted-beat c =
     let t = c .before .before .before .before .before in
     let e = t .before .before in
@@ -54,8 +54,8 @@ accepted-beat c =
     let records = tableNext h (a .table .now) (a .line .now) in
     let text : outputLine h (a .beat + 1) (t .next-table .last .1 .1 .0) ≡ outputLine h (a .beat + 1) records =
     rw (t .next-table .ensures) (line-of-stored h (a .beat + 1) (a .table .now) records (next-length h (a .table .now) (a .line .now)) (good e .2)) in
-    accepted-takes (AtBeat (a .h) (a .beat)) (beatRefusal h (a .beat) (a .line .now)) (atBeat h (a .beat + 1) records) (outputLine h (a .beat + 1) records) (a .table .now) (a .out .now) _ _ _
-    (sym (e .before .beat-refusal .ensures) ∙ e .if1 .left) (t .next-table .ensures) (c .put-line .ensures .1 ∙ rw text) (c .put-line .ensures .0 ∙ ap length text)
+    accepted-takes (AtBeat (a .h) (a .beat)) (beatLineRefusal h (a .beat) (a .line .now)) (atBeat h (a .beat + 1) records) (outputLine h (a .beat + 1) records) (a .table .now) (a .out .now) _ _ _
+    (sym (e .before .beat-line-refusal .ensures) ∙ e .if1 .left) (t .next-table .ensures) (c .put-line .ensures .1 ∙ rw text) (c .put-line .ensures .0 ∙ ap length text)
 
 pub take-beat-spec : {M : Type 1} → statement M
 take-beat-spec =

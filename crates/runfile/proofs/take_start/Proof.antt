@@ -6,13 +6,13 @@ use native.Mathlib.Omega.{arith}
 use lib.ListN.{length}
 use lib.Seq.{sets}
 use Rattle.rules.specs.Text.{wordsAt}
-use Rattle.rules.specs.RunFile.{startWords, startRefusal, outputLine, atBeat, takeLine}
+use Rattle.rules.specs.RunFile.{startWords, startLineRefusal, outputLine, atBeat, takeLine}
 use Rattle.rules.proofs.RunFiles.{start-formed}
 use Rattle.digits.proofs.WordsOfText.{words-length}
 use Rattle.frames.specs.Headers.{said}
 use Rattle.frames.proofs.Headers.{start-most}
 use Rattle.frames.proofs.Shown.{line-of-stored}
-use Rattle.runfile.specs.declared.Run.the-variants.{AtStart}
+use Rattle.runfile.specs.declared.Stage.the-variants.{AtStart}
 use Rattle.runfile.specs.Runs.{keptOf, tableOf}
 use Rattle.runfile.proofs.Takes.{refused-takes, accepted-takes}
 use Rattle.runfile.proofs.take_start.Statement.{statement}
@@ -20,7 +20,7 @@ use Rattle.runfile.proofs.take_start.Tie as tie
 
 refused : tie.Need-returns
 unfolding takeLine
-refused c = refused-takes _ _ _ _ _ _ (c .before .start-refusal .ensures) (c .if1 .taken)
+refused c = refused-takes _ _ _ _ _ _ (c .before .start-line-refusal .ensures) (c .if1 .taken)
 
 -- the line is well formed, and its words fit the table
 fits : (c : tie.Else1) → startWords (said (c .before .before .before .before .args .h)) ≤ length (c .before .before .before .before .args .table .now)
@@ -31,7 +31,7 @@ read-words-requires c κs =
     let w = c .before in
     let e = w .before in
     let a = e .before .before .before .before .args in
-    rw (w .start-words .ensures) (start-formed (said (a .h)) (a .line .now) (sym (e .before .start-refusal .ensures) ∙ e .if1 .left), fits e)
+    rw (w .start-words .ensures) (start-formed (said (a .h)) (a .line .now) (sym (e .before .start-line-refusal .ensures) ∙ e .if1 .left), fits e)
 
 put-line-requires : tie.Need-put-line-requires
 put-line-requires c κs =
@@ -51,8 +51,8 @@ accepted-start c =
     let stored : r .read-words .last .1 .1 .0 ≡ sets (a .table .now) 0 words = r .read-words .ensures ∙ rw (w .start-words .ensures) in
     let text : outputLine h 0 (r .read-words .last .1 .1 .0) ≡ outputLine h 0 words =
     rw stored (line-of-stored h 0 (a .table .now) words (words-length (a .line .now) 4 (startWords h)) (fits e)) in
-    accepted-takes (AtStart (a .h)) (startRefusal h (a .line .now)) (atBeat h 0 words) (outputLine h 0 words) (a .table .now) (a .out .now) _ _ _
-    (sym (e .before .start-refusal .ensures) ∙ e .if1 .left) stored (c .put-line .ensures .1 ∙ rw text) (c .put-line .ensures .0 ∙ ap length text)
+    accepted-takes (AtStart (a .h)) (startLineRefusal h (a .line .now)) (atBeat h 0 words) (outputLine h 0 words) (a .table .now) (a .out .now) _ _ _
+    (sym (e .before .start-line-refusal .ensures) ∙ e .if1 .left) stored (c .put-line .ensures .1 ∙ rw text) (c .put-line .ensures .0 ∙ ap length text)
 
 pub take-start-spec : {M : Type 1} → statement M
 take-start-spec =

@@ -14,7 +14,7 @@ tested : tie.Need-returns-2
 unfolding headerRefusal
 tested c =
     let e = c .before .before in
-    rw (← (e .before .well-formed .ensures), e .if1 .left) (c .tests-of .ensures ∙ rw (c .before .header-of .ensures))
+    rw (← (e .before .well-formed .ensures), e .if1 .left) (c .header-tests .ensures ∙ rw (c .before .header-of .ensures))
 
 pub header-refusal-spec : {M : Type 1} → statement M
 header-refusal-spec =
