@@ -1,5 +1,7 @@
 //! A copy of what the gate's own scripts read, in which a test puts something wrong.
 
+pub mod pages;
+
 use std::env;
 use std::fs;
 use std::path::PathBuf;
