@@ -1,7 +1,7 @@
 # Reads what `objdump -dr` prints of x86-64 code and prints how many instructions the function `start` takes at most: along
-# the longest way from its first one to a return, where a loop goes around once for each of `cards` cards. Functions that
-# call themselves do so at most `turns` deep, each time with half of the cards, rounded up. A call of a function from outside
-# counts as one instruction. A way that ends in a trap is not taken.
+# the longest way from its first one to a return, where a loop goes around once for each of `cards` cards, and is entered at
+# its head alone. Functions that call themselves do so at most `turns` deep, each time with half of the cards, rounded up. A
+# call of a function from outside counts as one instruction. A way that ends in a trap is not taken.
 
 function link(from, to) {
     following[from, ++ways[from]] = to
