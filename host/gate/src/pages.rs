@@ -78,3 +78,11 @@ pub fn rows(text: &str, columns: usize) -> Vec<Vec<String>> {
     let rows = cells.map(Iterator::collect::<Vec<String>>);
     rows.filter(|row| row.len() == columns).skip(1).collect()
 }
+
+/// What a page has in its fences of this language, one after the other.
+pub fn fenced(text: &str, language: &str) -> Vec<String> {
+    let fences = text.split("\n```").skip(1).step_by(2);
+    let start = format!("{language}\n");
+    let texts = fences.filter_map(|fence| fence.strip_prefix(&start));
+    texts.map(|text| format!("{text}\n")).collect()
+}

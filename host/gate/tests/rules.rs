@@ -2,7 +2,7 @@
 
 use std::collections::BTreeSet;
 
-use gate::pages::{files, names, page, plain, read, rows, sections, texts};
+use gate::pages::{fenced, files, names, page, plain, read, rows, sections, texts};
 use program::{root, wanted};
 use second::params::parameters;
 
@@ -134,16 +134,9 @@ fn the_table_of_the_rules_is_the_formulas() {
     }
 }
 
-/// The blocks of text of a section, without what stands beside their digits.
-fn blocks(section: &str) -> Vec<String> {
-    let fenced = section.split("```text\n").skip(1);
-    let blocks = fenced.map(|block| block.split("```").next().expect("a part before the end"));
-    blocks.map(String::from).collect()
-}
-
 #[test]
 fn the_example_of_the_rules_is_the_file() {
-    let blocks = blocks(&sections()["11.6"]);
+    let blocks = fenced(&sections()["11.6"], "text");
     assert_eq!(blocks.len(), 2);
     let (input, output) = (&blocks[0], &blocks[1]);
     let mut lines: Vec<String> = Vec::new();
