@@ -23,7 +23,10 @@ pub fn launcher() -> PathBuf {
     let launcher = root().join("tsendurkho");
     BUILT.call_once(|| {
         let built = Command::new(&launcher).arg("build").status();
-        assert!(built.expect("the launcher starts").success(), "nothing could be built");
+        assert!(
+            built.expect("the launcher starts").success(),
+            "nothing could be built"
+        );
     });
     launcher
 }
@@ -90,7 +93,10 @@ fn assert_fits(ended: &Output) {
         None => assert_eq!((&*said, code), ("", Some(0))),
         Some((line, refusal)) => {
             let start = format!("tsendurkho: line {line} refused ({refusal}): ");
-            assert!(said.starts_with(&start) && said.lines().count() == 1, "{said:?}, not {start:?}");
+            assert!(
+                said.starts_with(&start) && said.lines().count() == 1,
+                "{said:?}, not {start:?}"
+            );
             assert_eq!(code, Some(3), "{said}");
         }
     }
@@ -98,14 +104,21 @@ fn assert_fits(ended: &Output) {
 
 /// How the launcher ends with these words.
 pub fn launched(words: &[&str]) -> Output {
-    let output = Command::new(launcher()).args(words).stdin(Stdio::null()).output();
+    let output = Command::new(launcher())
+        .args(words)
+        .stdin(Stdio::null())
+        .output();
     output.expect("the launcher starts")
 }
 
 /// The launcher's standard output, standard error and exit status.
 pub fn parts(ended: &Output) -> (String, String, Option<i32>) {
     let text = |bytes| String::from_utf8_lossy(bytes).into_owned();
-    (text(&ended.stdout), text(&ended.stderr), ended.status.code())
+    (
+        text(&ended.stdout),
+        text(&ended.stderr),
+        ended.status.code(),
+    )
 }
 
 /// A path as an argument.

@@ -90,7 +90,12 @@ fn an_input_that_ends_anywhere() {
         let output = wanted(&text[..end]);
         let reported = cut_short(&output);
         let status = if reported.is_empty() { 0 } else { 3 };
-        assert_ends(finished(&mut run(), &text[..end]), &output, &reported, status);
+        assert_ends(
+            finished(&mut run(), &text[..end]),
+            &output,
+            &reported,
+            status,
+        );
     }
 }
 
@@ -141,7 +146,12 @@ fn a_read_that_fails_anywhere() {
             .output()
             .expect("the launcher runs");
         let output = wanted(&text[..end]);
-        assert_ends(ended, &output, &(UNREAD.to_string() + &cut_short(&output)), 1);
+        assert_ends(
+            ended,
+            &output,
+            &(UNREAD.to_string() + &cut_short(&output)),
+            1,
+        );
     }
 }
 

@@ -10,7 +10,11 @@ const RECORD: &str = "lib/pkgconfig/tsendurkho.pc";
 
 fn done(words: &[&str]) {
     let (output, errors, code) = parts(&launched(words));
-    assert_eq!((output.as_str(), code), ("", Some(0)), "{words:?}: {errors}");
+    assert_eq!(
+        (output.as_str(), code),
+        ("", Some(0)),
+        "{words:?}: {errors}"
+    );
 }
 
 /// All files and folders below a folder, by their paths from there.
@@ -37,7 +41,14 @@ fn paths(names: &[&str]) -> Vec<PathBuf> {
 }
 
 const INSTALLED: [&str; 8] = [
-    "bin", "bin/blockrun", "include", "include/tsendurkho.h", "lib", "lib/libtsendurkho.a", "lib/pkgconfig", RECORD,
+    "bin",
+    "bin/blockrun",
+    "include",
+    "include/tsendurkho.h",
+    "lib",
+    "lib/libtsendurkho.a",
+    "lib/pkgconfig",
+    RECORD,
 ];
 
 #[test]
@@ -52,7 +63,10 @@ fn what_is_installed_is_removed() {
         ("include/tsendurkho.h", "include/tsendurkho.h"),
         ("lib/libtsendurkho.a", "target/staticlib/libtsendurkho.a"),
     ] {
-        assert!(fs::read(place.join(put)).unwrap() == fs::read(root().join(from)).unwrap(), "{put}");
+        assert!(
+            fs::read(place.join(put)).unwrap() == fs::read(root().join(from)).unwrap(),
+            "{put}"
+        );
     }
     done(&["uninstall", word(&place)]);
     assert_eq!(contents(&place), paths(&[]));
@@ -70,28 +84,41 @@ fn what_is_not_recorded_stays() {
     fs::write(place.join(theirs[1]), "theirs").expect("a file can be written");
     done(&["install", word(&place)]);
     done(&["uninstall", word(&place)]);
-    assert_eq!(contents(&place), paths(&["lib", theirs[0], "include", theirs[1]]));
+    assert_eq!(
+        contents(&place),
+        paths(&["lib", theirs[0], "include", theirs[1]])
+    );
 }
 
 /// How `uninstall` fails, and that it leaves everything as it is.
 fn nothing_is_removed(place: &Path, said: &str) {
     let before = contents(place);
     let ended = launched(&["uninstall", word(place)]);
-    assert_eq!(parts(&ended), (String::new(), format!("tsendurkho: {said}\n"), Some(1)));
+    assert_eq!(
+        parts(&ended),
+        (String::new(), format!("tsendurkho: {said}\n"), Some(1))
+    );
     assert_eq!(contents(place), before);
 }
 
 #[test]
 fn without_a_record_nothing_is_removed() {
     let place = scratch("install-no-record");
-    let said = format!("no install is recorded in '{}', and nothing is removed", place.join(RECORD).display());
+    let said = format!(
+        "no install is recorded in '{}', and nothing is removed",
+        place.join(RECORD).display()
+    );
     nothing_is_removed(&place, &said);
     // Files of the same names that no install put there.
     done(&["install", word(&place)]);
     fs::remove_file(place.join(RECORD)).expect("the record is there");
     nothing_is_removed(&place, &said);
     // An older install recorded its folders alone.
-    fs::write(place.join(RECORD), "# folders made by install: lib include bin\n").expect("a record");
+    fs::write(
+        place.join(RECORD),
+        "# folders made by install: lib include bin\n",
+    )
+    .expect("a record");
     nothing_is_removed(&place, &said);
     done(&["install", word(&place)]);
     done(&["uninstall", word(&place)]);
@@ -102,11 +129,23 @@ fn without_a_record_nothing_is_removed() {
 fn a_damaged_record_removes_nothing() {
     let place = scratch("install-damaged");
     let inner = place.join("prefix");
-    let said = format!("the record '{}' is damaged, and nothing is removed", inner.join(RECORD).display());
+    let said = format!(
+        "the record '{}' is damaged, and nothing is removed",
+        inner.join(RECORD).display()
+    );
     fs::write(place.join("theirs"), "theirs").expect("a file can be written");
-    for file in ["../theirs", "/etc/hostname", "lib/*", "lib/pkgconfig/../../../theirs"] {
+    for file in [
+        "../theirs",
+        "/etc/hostname",
+        "lib/*",
+        "lib/pkgconfig/../../../theirs",
+    ] {
         fs::create_dir_all(inner.join("lib/pkgconfig")).expect("folders can be made");
-        fs::write(inner.join(RECORD), format!("# files put by install: {file} {RECORD}\n")).expect("a record");
+        fs::write(
+            inner.join(RECORD),
+            format!("# files put by install: {file} {RECORD}\n"),
+        )
+        .expect("a record");
         nothing_is_removed(&inner, &said);
     }
     assert!(place.join("theirs").exists());
@@ -127,7 +166,11 @@ fn files_of_an_older_version() {
 
 fn with_destination(stage: &Path, words: &[&str]) -> Output {
     let mut command = Command::new(launcher());
-    command.args(words).env("DESTDIR", stage).output().expect("the launcher starts")
+    command
+        .args(words)
+        .env("DESTDIR", stage)
+        .output()
+        .expect("the launcher starts")
 }
 
 #[test]
@@ -135,11 +178,18 @@ fn below_another_root() {
     let stage = scratch("install-stage");
     let prefix = stage.join("opt");
     let place = PathBuf::from(format!("{}{}", stage.display(), prefix.display()));
-    assert!(with_destination(&stage, &["install", word(&prefix)]).status.success());
+    assert!(with_destination(&stage, &["install", word(&prefix)])
+        .status
+        .success());
     assert_eq!(contents(&place), paths(&INSTALLED));
     let record = fs::read_to_string(place.join(RECORD)).expect("the record");
-    assert!(record.contains(&format!("\nprefix={}\n", prefix.display())), "{record}");
+    assert!(
+        record.contains(&format!("\nprefix={}\n", prefix.display())),
+        "{record}"
+    );
     assert!(!prefix.exists());
-    assert!(with_destination(&stage, &["uninstall", word(&prefix)]).status.success());
+    assert!(with_destination(&stage, &["uninstall", word(&prefix)])
+        .status
+        .success());
     assert_eq!(contents(&place), paths(&[]));
 }

@@ -39,19 +39,25 @@ struct Repository(PathBuf);
 impl Repository {
     fn new(name: &str) -> Repository {
         let place = Repository(scratch(name));
-        let copied = Command::new("cp").arg("-R").args([root().join("tsendurkho"), root().join("launch")]).arg(&place.0).status();
+        let copied = Command::new("cp")
+            .arg("-R")
+            .args([root().join("tsendurkho"), root().join("launch")])
+            .arg(&place.0)
+            .status();
         assert!(copied.expect("cp starts").success());
         place.write("crates.txt", "only:\n");
         place.write("crates/only/src/lib.rt", "first\n");
         place.write("docs/ECONOMY.md", TABLE);
         place.write("bin/rt", STAND_IN);
-        fs::set_permissions(place.0.join("bin/rt"), Permissions::from_mode(0o755)).expect("it can be made a program");
+        fs::set_permissions(place.0.join("bin/rt"), Permissions::from_mode(0o755))
+            .expect("it can be made a program");
         place
     }
 
     fn write(&self, file: &str, text: &str) {
         let path = self.0.join(file);
-        fs::create_dir_all(path.parent().expect("a file stands in a folder")).expect("a folder for it");
+        fs::create_dir_all(path.parent().expect("a file stands in a folder"))
+            .expect("a folder for it");
         fs::write(path, text).expect("the file can be written");
     }
 
@@ -65,13 +71,23 @@ impl Repository {
 
     fn command(&self, program: &str) -> Command {
         let mut command = Command::new(program);
-        let path = format!("{}:{}", self.0.join("bin").display(), std::env::var("PATH").unwrap_or_default());
-        command.current_dir(&self.0).env("PATH", path).stdin(Stdio::null());
+        let path = format!(
+            "{}:{}",
+            self.0.join("bin").display(),
+            std::env::var("PATH").unwrap_or_default()
+        );
+        command
+            .current_dir(&self.0)
+            .env("PATH", path)
+            .stdin(Stdio::null());
         command
     }
 
     fn build(&self) -> Output {
-        self.command("./tsendurkho").arg("build").output().expect("the launcher starts")
+        self.command("./tsendurkho")
+            .arg("build")
+            .output()
+            .expect("the launcher starts")
     }
 
     /// Builds, and answers what rt was asked for it.
@@ -79,8 +95,16 @@ impl Repository {
         let before = self.read("asked").lines().count();
         let (output, errors, code) = parts(&self.build());
         assert_eq!((output.as_str(), code), ("", Some(0)), "{errors}");
-        assert_eq!(errors.lines().count(), self.read("asked").lines().count() - before, "{errors}");
-        self.read("asked").lines().skip(before).map(String::from).collect()
+        assert_eq!(
+            errors.lines().count(),
+            self.read("asked").lines().count() - before,
+            "{errors}"
+        );
+        self.read("asked")
+            .lines()
+            .skip(before)
+            .map(String::from)
+            .collect()
     }
 
     fn assert_made_of(&self, source: &str) {
@@ -101,11 +125,17 @@ fn a_first_build_and_none_after_it() {
 fn the_expected_time_is_that_of_what_is_not_proved() {
     let place = Repository::new("expected-time");
     let lines = "tsendurkho: proving the run program, about 3 minutes\ntsendurkho: proving the archive, about 2 minutes\n";
-    assert_eq!(parts(&place.build()), (String::new(), lines.to_string(), Some(0)));
+    assert_eq!(
+        parts(&place.build()),
+        (String::new(), lines.to_string(), Some(0))
+    );
     place.write("target/stamp/only", "");
     place.write("crates/only/src/lib.rt", "second\n");
     let lines = "tsendurkho: proving the run program, about 1 minute\ntsendurkho: proving the archive, about 1 minute\n";
-    assert_eq!(parts(&place.build()), (String::new(), lines.to_string(), Some(0)));
+    assert_eq!(
+        parts(&place.build()),
+        (String::new(), lines.to_string(), Some(0))
+    );
 }
 
 /// Of a changed, a new or a renamed source, or of one put back as it was.
@@ -116,7 +146,13 @@ fn a_changed_source() {
     let changes: [&dyn Fn(); 4] = [
         &|| place.write("crates/only/src/lib.rt", "second\n"),
         &|| place.write("crates/only/proofs/Law.antt", "law\n"),
-        &|| fs::rename(place.0.join("crates/only/proofs/Law.antt"), place.0.join("crates/only/proofs/Lemma.antt")).expect("it can be renamed"),
+        &|| {
+            fs::rename(
+                place.0.join("crates/only/proofs/Law.antt"),
+                place.0.join("crates/only/proofs/Lemma.antt"),
+            )
+            .expect("it can be renamed")
+        },
         &|| place.write("crates/only/src/lib.rt", "first\n"),
     ];
     for change in changes {
@@ -137,7 +173,12 @@ fn a_changed_source() {
 fn a_product_that_is_gone_or_another() {
     let place = Repository::new("gone");
     place.asked();
-    for (file, asked) in [(PROGRAM, ASKED[0]), (ARCHIVE, ASKED[1]), ("target/made/blockrun", ASKED[0]), ("target/made/libtsendurkho.a", ASKED[1])] {
+    for (file, asked) in [
+        (PROGRAM, ASKED[0]),
+        (ARCHIVE, ASKED[1]),
+        ("target/made/blockrun", ASKED[0]),
+        ("target/made/libtsendurkho.a", ASKED[1]),
+    ] {
         place.remove(file);
         assert_eq!(place.asked(), [asked], "{file}");
         place.assert_made_of("first");
@@ -157,7 +198,13 @@ fn what_rt_kept_is_damaged() {
     place.write("target/stamp/only", "");
     place.write("status", "2");
     let ended = place.build();
-    assert_eq!((ended.status.code(), place.read("asked").as_str()), (Some(0), "check blockrun\ncheck blockrun\nstaticlib tsendurkho\n"));
+    assert_eq!(
+        (ended.status.code(), place.read("asked").as_str()),
+        (
+            Some(0),
+            "check blockrun\ncheck blockrun\nstaticlib tsendurkho\n"
+        )
+    );
     assert!(!place.0.join("target/stamp/only").exists());
     place.assert_made_of("first");
 }
@@ -166,7 +213,9 @@ fn what_rt_kept_is_damaged() {
 #[test]
 fn a_build_that_fails() {
     let place = Repository::new("fails");
-    let printed: String = (1..=50).map(|line| format!("line {line} of rt\n")).collect();
+    let printed: String = (1..=50)
+        .map(|line| format!("line {line} of rt\n"))
+        .collect();
     for status in ["1", "3"] {
         place.write("prints", &printed);
         place.write("status", status);
@@ -188,16 +237,29 @@ fn a_build_that_fails() {
 /// All that a terminal gets.
 fn on_terminal(place: &Repository, command: &str) -> String {
     let script = ["--quiet", "--return", "--command", command, "/dev/null"];
-    parts(&place.command("script").args(script).output().expect("script starts")).0
+    parts(
+        &place
+            .command("script")
+            .args(script)
+            .output()
+            .expect("script starts"),
+    )
+    .0
 }
 
 #[test]
 fn on_a_terminal_the_line_is_written_over_and_cleared() {
     let place = Repository::new("terminal");
-    place.write("prints", "rt: only proved (3 s)\nother\nrt: more proved (unchanged since it was last proved)\n");
+    place.write(
+        "prints",
+        "rt: only proved (3 s)\nother\nrt: more proved (unchanged since it was last proved)\n",
+    );
     let clear = "\r\x1b[K";
     let mut said = String::new();
-    for what in ["the run program, about 3 minutes", "the archive, about 2 minutes"] {
+    for what in [
+        "the run program, about 3 minutes",
+        "the archive, about 2 minutes",
+    ] {
         for proved in ["", " (only proved)", " (more proved)"] {
             said += &format!("{clear}tsendurkho: proving {what}{proved}");
         }
@@ -210,7 +272,11 @@ fn on_a_terminal_the_line_is_written_over_and_cleared() {
 /// A build that has started, and the first line that it says.
 fn started(place: &Repository) -> (Child, BufReader<ChildStderr>, String) {
     let mut command = place.command("./tsendurkho");
-    let mut child = command.arg("build").stderr(Stdio::piped()).spawn().expect("the launcher starts");
+    let mut child = command
+        .arg("build")
+        .stderr(Stdio::piped())
+        .spawn()
+        .expect("the launcher starts");
     let mut said = BufReader::new(child.stderr.take().expect("its standard error is a pipe"));
     let mut line = String::new();
     said.read_line(&mut line).expect("it says something");
@@ -222,17 +288,28 @@ fn started(place: &Repository) -> (Child, BufReader<ChildStderr>, String) {
 fn another_build_under_way() {
     let place = Repository::new("another");
     // Each time it waits until something may be read.
-    place.write("bin/rt", &STAND_IN.replacen("echo \"$*\"", "read -r _ <\"$1.gate\"\necho \"$*\"", 1));
+    place.write(
+        "bin/rt",
+        &STAND_IN.replacen("echo \"$*\"", "read -r _ <\"$1.gate\"\necho \"$*\"", 1),
+    );
     let gates = ["check.gate", "staticlib.gate"].map(|name| place.0.join(name));
-    assert!(Command::new("mkfifo").args(&gates).status().expect("mkfifo starts").success());
+    assert!(Command::new("mkfifo")
+        .args(&gates)
+        .status()
+        .expect("mkfifo starts")
+        .success());
     let (first, second) = (started(&place), started(&place));
-    assert_eq!(first.2, "tsendurkho: proving the run program, about 3 minutes\n");
+    assert_eq!(
+        first.2,
+        "tsendurkho: proving the run program, about 3 minutes\n"
+    );
     assert_eq!(second.2, "tsendurkho: waiting for another build\n");
     for gate in gates {
         fs::write(gate, "go\n").expect("the stand-in reads it");
     }
     for (mut child, mut said, _) in [first, second] {
-        said.read_to_string(&mut String::new()).expect("what else it says");
+        said.read_to_string(&mut String::new())
+            .expect("what else it says");
         assert!(child.wait().expect("the launcher ends").success());
     }
     assert_eq!(place.read("asked").lines().collect::<Vec<_>>(), ASKED);

@@ -121,9 +121,18 @@ fn beats_out_of_order() {
     explained(
         "beats",
         &[
-            (&format!("{HEADER}000100020001\n"), "line 2 refused (11): it has beat 0001 where 0000 is wanted"),
-            (&after("0001\n0002\n0007\n"), "line 5 refused (11): it has beat 0007 where 0003 is wanted"),
-            (&after("0000\n"), "line 3 refused (11): it has beat 0000 where 0001 is wanted"),
+            (
+                &format!("{HEADER}000100020001\n"),
+                "line 2 refused (11): it has beat 0001 where 0000 is wanted",
+            ),
+            (
+                &after("0001\n0002\n0007\n"),
+                "line 5 refused (11): it has beat 0007 where 0003 is wanted",
+            ),
+            (
+                &after("0000\n"),
+                "line 3 refused (11): it has beat 0000 where 0001 is wanted",
+            ),
         ],
     );
     let beats: String = (1..=0xfffe).map(|beat| format!("{beat:04x}\n")).collect();
@@ -165,7 +174,12 @@ fn an_input_that_is_read_once() {
 }
 
 /// Words that are said where the file does not show what was wrong.
-const GENERAL: [&str; 4] = [" and 3f below", " a wrong length or a character ", "the broken set may ", "): beat "];
+const GENERAL: [&str; 4] = [
+    " and 3f below",
+    " a wrong length or a character ",
+    "the broken set may ",
+    "): beat ",
+];
 
 /// Is the file refused, and is what was wrong with it named?
 fn is_named(text: &[u8]) -> bool {
@@ -178,7 +192,10 @@ fn is_named(text: &[u8]) -> bool {
             false
         }
         Some((line, refusal)) => {
-            assert!(said.starts_with(&format!("tsendurkho: line {line} refused ({refusal}): ")), "{said}");
+            assert!(
+                said.starts_with(&format!("tsendurkho: line {line} refused ({refusal}): ")),
+                "{said}"
+            );
             assert!(!GENERAL.iter().any(|words| said.contains(words)), "{said}");
             assert_eq!((said.lines().count(), code), (1, Some(3)), "{said}");
             true
@@ -215,5 +232,8 @@ fn the_words_come_after_the_output() {
         .expect("a shell starts");
     let mut all = wanted(&text);
     all.extend(b"tsendurkho: line 203 refused (10): it is empty where 148 characters are wanted\n");
-    assert_eq!(String::from_utf8_lossy(&both.stdout), String::from_utf8_lossy(&all));
+    assert_eq!(
+        String::from_utf8_lossy(&both.stdout),
+        String::from_utf8_lossy(&all)
+    );
 }

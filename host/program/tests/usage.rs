@@ -9,18 +9,36 @@ use program::{launched, launcher, parts, root, scratch, word};
 
 /// The commands, as the help lists them.
 const COMMANDS: [&str; 12] = [
-    "run", "build", "simulate", "compare", "bench", "mutate", "stats", "test", "install", "uninstall", "version", "help",
+    "run",
+    "build",
+    "simulate",
+    "compare",
+    "bench",
+    "mutate",
+    "stats",
+    "test",
+    "install",
+    "uninstall",
+    "version",
+    "help",
 ];
 
 fn assert_wrong(words: &[&str], said: &str) {
     let (output, errors, code) = parts(&launched(words));
-    assert_eq!((output.as_str(), errors, code), ("", format!("{said}\n"), Some(2)), "{words:?}");
+    assert_eq!(
+        (output.as_str(), errors, code),
+        ("", format!("{said}\n"), Some(2)),
+        "{words:?}"
+    );
 }
 
 /// What the launcher itself says of a wrong use.
 fn refused(words: &[&str], said: &str) {
     let command = words[0];
-    assert_wrong(words, &format!("tsendurkho: {command}: {said}; try ./tsendurkho {command} --help"));
+    assert_wrong(
+        words,
+        &format!("tsendurkho: {command}: {said}; try ./tsendurkho {command} --help"),
+    );
 }
 
 #[test]
@@ -34,7 +52,16 @@ fn a_command_that_there_is_not() {
 
 #[test]
 fn options_and_arguments_that_a_command_does_not_take() {
-    for (command, most) in [("run", 1), ("build", 0), ("bench", 0), ("test", 0), ("install", 1), ("uninstall", 1), ("version", 0), ("help", 1)] {
+    for (command, most) in [
+        ("run", 1),
+        ("build", 0),
+        ("bench", 0),
+        ("test", 0),
+        ("install", 1),
+        ("uninstall", 1),
+        ("version", 0),
+        ("help", 1),
+    ] {
         refused(&[command, "--fast"], "there is no option '--fast'");
         let mut words = vec![command, "/a", "/b"];
         words.truncate(most + 2);
@@ -42,16 +69,45 @@ fn options_and_arguments_that_a_command_does_not_take() {
         refused(&words, &format!("one argument too many: '{extra}'"));
     }
     let stats = "; try ./tsendurkho stats --help";
-    assert_wrong(&["stats", "--fast"], &format!("stats: there is no option '--fast'{stats}"));
-    assert_wrong(&["stats", "rules"], &format!("stats: one argument too many: 'rules'{stats}"));
-    assert_wrong(&["stats", "--lines", "rules"], &format!("stats: one argument too many: 'rules'{stats}"));
+    assert_wrong(
+        &["stats", "--fast"],
+        &format!("stats: there is no option '--fast'{stats}"),
+    );
+    assert_wrong(
+        &["stats", "rules"],
+        &format!("stats: one argument too many: 'rules'{stats}"),
+    );
+    assert_wrong(
+        &["stats", "--lines", "rules"],
+        &format!("stats: one argument too many: 'rules'{stats}"),
+    );
 }
 
 /// The programs of the host side read their own arguments.
 #[test]
-fn options_that_a_tool_does_not_take() {
-    for tool in ["simulate", "compare", "mutate"] {
-        assert_wrong(&[tool, "--fast"], &format!("{tool}: there is no option '--fast'; try ./tsendurkho {tool} --help"));
+fn arguments_that_a_tool_does_not_take() {
+    for (words, said) in [
+        (&["simulate", "--fast"][..], "there is no option '--fast'"),
+        (&["simulate", "1", "2"], "one argument too many: '2'"),
+        (&["compare", "--fast"], "there is no option '--fast'"),
+        (&["compare", "1", "2", "3"], "one argument too many: '3'"),
+        (&["mutate", "--fast"], "there is no option '--fast'"),
+        (
+            &["mutate", "lug"],
+            "'lug' is no library that crates.txt lists",
+        ),
+        (
+            &["mutate", "--only", "no such edit", "lag"],
+            "no edit is --only 'no such edit'",
+        ),
+        (
+            &["mutate", "--list", "--only", "999999", "lag"],
+            "no edit is --only '999999'",
+        ),
+    ] {
+        let tool = words[0];
+        let line = format!("{tool}: {said}; try ./tsendurkho {tool} --help");
+        assert_wrong(words, &line);
     }
 }
 
@@ -60,10 +116,22 @@ fn a_file_that_cannot_be_a_run_file() {
     let folder = scratch("no-run-file");
     let (missing, socket) = (folder.join("missing"), folder.join("socket"));
     let _bound = UnixListener::bind(&socket).expect("a socket can be made");
-    refused(&["run", word(&missing)], &format!("there is no file '{}'", missing.display()));
+    refused(
+        &["run", word(&missing)],
+        &format!("there is no file '{}'", missing.display()),
+    );
     refused(&["run", ""], "there is no file ''");
-    refused(&["run", word(&folder)], &format!("'{}' is a directory, and a file is wanted", folder.display()));
-    refused(&["run", word(&socket)], &format!("'{}' cannot be read", socket.display()));
+    refused(
+        &["run", word(&folder)],
+        &format!(
+            "'{}' is a directory, and a file is wanted",
+            folder.display()
+        ),
+    );
+    refused(
+        &["run", word(&socket)],
+        &format!("'{}' cannot be read", socket.display()),
+    );
 }
 
 #[test]
@@ -73,8 +141,14 @@ fn a_prefix_that_there_cannot_be() {
     for command in ["install", "uninstall"] {
         refused(&[command, ""], "PREFIX is empty");
         refused(&[command, "usr"], "PREFIX has to begin with /: 'usr'");
-        refused(&[command, "/a b"], "PREFIX may have letters, digits and / . _ + - alone: '/a b'");
-        refused(&[command, word(&file)], &format!("PREFIX is no folder: '{}'", file.display()));
+        refused(
+            &[command, "/a b"],
+            "PREFIX may have letters, digits and / . _ + - alone: '/a b'",
+        );
+        refused(
+            &[command, word(&file)],
+            &format!("PREFIX is no folder: '{}'", file.display()),
+        );
     }
 }
 
@@ -94,7 +168,10 @@ fn bare_copy(name: &str) -> PathBuf {
     let place = scratch(name);
     let copy = "cp -R tsendurkho launch VERSION \"$1\" && mkdir \"$1/bin\" && for tool in sh awk cat dirname; do \
                 ln -s \"$(command -v $tool)\" \"$1/bin\"; done";
-    let copied = Command::new("sh").args(["-c", copy, "sh", word(&place)]).current_dir(root()).status();
+    let copied = Command::new("sh")
+        .args(["-c", copy, "sh", word(&place)])
+        .current_dir(root())
+        .status();
     assert!(copied.expect("a shell starts").success());
     place
 }
@@ -107,10 +184,21 @@ fn help_on_a_command_needs_nothing() {
         let (part, errors, code) = parts(&bare(&place, &[command, "--help"]));
         assert_eq!((errors.as_str(), code), ("", Some(0)), "{command}");
         let (usage, paragraphs) = part.split_once("\n\n").expect("the usage stands first");
-        assert!(whole.starts_with(usage) && whole.contains(paragraphs), "{part}");
+        assert!(
+            whole.starts_with(usage) && whole.contains(paragraphs),
+            "{part}"
+        );
         assert!(paragraphs.starts_with(&format!("  {command} ")), "{part}");
-        for words in [&[command, "-h"][..], &[command, "--fast", "--help"], &["help", command]] {
-            assert_eq!(parts(&bare(&place, words)), (part.clone(), String::new(), Some(0)), "{words:?}");
+        for words in [
+            &[command, "-h"][..],
+            &[command, "--fast", "--help"],
+            &["help", command],
+        ] {
+            assert_eq!(
+                parts(&bare(&place, words)),
+                (part.clone(), String::new(), Some(0)),
+                "{words:?}"
+            );
         }
     }
 }
@@ -121,14 +209,34 @@ fn the_help_names_every_command_and_option() {
     let (whole, _, code) = parts(&launched(&["help"]));
     assert_eq!(code, Some(0));
     for words in [&[][..], &["--help"], &["-h"]] {
-        assert_eq!(parts(&launched(words)), (whole.clone(), String::new(), Some(0)));
+        assert_eq!(
+            parts(&launched(words)),
+            (whole.clone(), String::new(), Some(0))
+        );
     }
-    let heads = whole.lines().filter(|line| line.starts_with("  ") && !line[2..].starts_with(' '));
-    let mut named: Vec<_> = heads.map(|line| line.split_whitespace().next().expect("a word")).collect();
+    let heads = whole
+        .lines()
+        .filter(|line| line.starts_with("  ") && !line[2..].starts_with(' '));
+    let mut named: Vec<_> = heads
+        .map(|line| line.split_whitespace().next().expect("a word"))
+        .collect();
     named.dedup();
     assert_eq!(named, COMMANDS);
-    let options = ["--list", "--all", "--only WHICH", "--jobs N", "--fault cooldown", "--seed SEED", "--svg FILE", "--lies", "--lines"];
-    for option in options.iter().chain(&["[CASES [SEED]]", "PREFIX", "DESTDIR"]) {
+    let options = [
+        "--list",
+        "--all",
+        "--only WHICH",
+        "--jobs N",
+        "--fault cooldown",
+        "--seed SEED",
+        "--svg FILE",
+        "--lies",
+        "--lines",
+    ];
+    for option in options
+        .iter()
+        .chain(&["[CASES [SEED]]", "PREFIX", "DESTDIR"])
+    {
         assert!(whole.contains(option), "{option}");
     }
     assert!(whole.lines().all(|line| line.chars().count() <= 80));
@@ -154,7 +262,11 @@ fn every_shell_says_the_same() {
     let by_default = parts(&launched(&["run", word(&file)]));
     assert_eq!(by_default.2, Some(3));
     for shell in ["sh", "dash", "bash"] {
-        let started = Command::new(shell).arg(launcher()).arg("run").arg(&file).output();
+        let started = Command::new(shell)
+            .arg(launcher())
+            .arg("run")
+            .arg(&file)
+            .output();
         match started {
             Ok(ended) => assert_eq!(parts(&ended), by_default, "{shell}"),
             Err(_) => assert_ne!(shell, "sh"),
