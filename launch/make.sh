@@ -28,7 +28,7 @@ make_one() { # PRODUCT
     command -v rt >/dev/null || fail "$(name_of "$1") is proved and built by the Rattle kit, and rt is not on the PATH"
     wait_for_others
     if ! is_made "$1"; then
-        announce "proving $(name_of "$1"), $(expected_time)"
+        announce "proving $(name_of "$1"), $(expected_time "$1")"
         sources=$(sum_of_sources)
         build "$1" || fail_with_log "$(name_of "$1") could not be built"
         mkdir -p "$root/target/made"
@@ -39,10 +39,11 @@ make_one() { # PRODUCT
 }
 
 name_of() { # PRODUCT
-    case $1 in
-    "$program") echo "the run program" ;;
-    *) echo "the archive" ;;
-    esac
+    [ "$1" = "$program" ] && echo "the run program" || echo "the archive"
+}
+
+crate_of() { # PRODUCT
+    [ "$1" = "$program" ] && echo blockrun || echo tsendurkho
 }
 
 # Others who build here are waited for, and so are the provers that a build which was broken off has left running.
@@ -64,15 +65,17 @@ announce() { # TEXT
     fi
 }
 
-# How long the crates take that rt has not proved yet, by the seconds of the table.
-expected_time() {
-    { ls "$root/target/stamp" 2>/dev/null || :; cat "$root/docs/ECONOMY.md"; } | awk '
-        NF == 1 { proved[$1] }
-        NF == 15 && $2 != "all" && !($2 in proved) { seconds += $14 }
-        END {
-            minutes = int((seconds + 59) / 60)
-            print "about " (minutes > 1 ? minutes " minutes" : "1 minute")
-        }'
+# How long a product takes, by the table's seconds: its own crate, and those before it that rt has to prove.
+expected_time() { # PRODUCT
+    { kept_crates && cat "$root/crates.txt" "$root/docs/ECONOMY.md"; } | awk -v crate="$(crate_of "$1")" -f "$root/launch/time.awk"
+}
+
+# The crates that rt has proved and that have no later file.
+kept_crates() {
+    for stamp in "$root"/target/stamp/*; do
+        crate=$root/crates/${stamp##*/}
+        [ -n "$(find "$crate" -name must-fail -prune -o -newer "$stamp" -print 2>&1 | head -n 1)" ] || echo "${stamp##*/}"
+    done
 }
 
 # rt ends with 2 where it cannot read what it made before: then it makes that anew, once.
@@ -92,10 +95,8 @@ log=$root/target/build.log
 
 # What rt prints is kept, and shown if it fails.
 ask_rt() { # PRODUCT
-    case $1 in
-    "$program") set -- check blockrun ;;
-    *) set -- staticlib tsendurkho ;;
-    esac
+    [ "$1" = "$program" ] && asked=check || asked=staticlib
+    set -- "$asked" "$(crate_of "$1")"
     mkdir -p "$root/target"
     ended=$({ { (cd "$root" && rt "$@") </dev/null 2>&1 && echo 0 >&5 || echo $? >&5; } | keep_log; } 5>&1 >/dev/null)
     return "${ended:-1}"

@@ -30,10 +30,27 @@ staticlib) echo "archive of $(cat crates/only/src/lib.rt)" >target/staticlib/lib
 esac
 "#;
 
-const TABLE: &str = "# Figures\n\n| crate | a | b | c | d | e | seconds |\n|---|---:|---:|---:|---:|---:|---:|\n\
-    | only | 1 | 1 | 1 | 1 | 1 | 61 |\n| blockrun | 1 | 1 | 1 | 1 | 1 | 60 |\n| all | 2 | 2 | 2 | 2 | 2 | 121 |\n";
+/// The seconds of each crate.
+const TABLE: &str = "# Figures
 
-/// A repository of one crate.
+| crate | a | b | c | d | e | seconds |
+|---|---:|---:|---:|---:|---:|---:|
+| only | 1 | 1 | 1 | 1 | 1 | 61 |
+| other | 1 | 1 | 1 | 1 | 1 | 600 |
+| blockrun | 1 | 1 | 1 | 1 | 1 | 60 |
+| tsendurkho | 1 | 1 | 1 | 1 | 1 | 30 |
+| all | 4 | 4 | 4 | 4 | 4 | 751 |
+";
+
+/// Both products depend on one crate, and none on another.
+const CRATES: &str = "# NAME: what it stands on
+only:
+other: only
+blockrun: only io
+tsendurkho: only
+";
+
+/// A repository whose only sources are those of one crate.
 struct Repository(PathBuf);
 
 impl Repository {
@@ -45,7 +62,7 @@ impl Repository {
             .arg(&place.0)
             .status();
         assert!(copied.expect("cp starts").success());
-        place.write("crates.txt", "only:\n");
+        place.write("crates.txt", CRATES);
         place.write("crates/only/src/lib.rt", "first\n");
         place.write("docs/ECONOMY.md", TABLE);
         place.write("bin/rt", STAND_IN);
@@ -67,6 +84,20 @@ impl Repository {
 
     fn remove(&self, file: &str) {
         fs::remove_file(self.0.join(file)).expect("the file is there");
+    }
+
+    /// A stamp of rt's, of this time.
+    fn stamp(&self, name: &str, time: &str) {
+        self.write(&format!("target/stamp/{name}"), "");
+        let stamp = self.0.join("target/stamp").join(name);
+        let touched = Command::new("touch").args(["-d", time]).arg(stamp).status();
+        assert!(touched.expect("touch starts").success());
+    }
+
+    fn stamp_all(&self, time: &str) {
+        for name in ["only", "other", "blockrun", "tsendurkho"] {
+            self.stamp(name, time);
+        }
     }
 
     fn command(&self, program: &str) -> Command {
@@ -121,21 +152,39 @@ fn a_first_build_and_none_after_it() {
     assert!(place.asked().is_empty());
 }
 
+/// What a build says, with nothing else.
+fn assert_says(place: &Repository, program: &str, archive: &str) {
+    let lines = format!(
+        "tsendurkho: proving the run program, about {program}\n\
+         tsendurkho: proving the archive, about {archive}\n"
+    );
+    assert_eq!(parts(&place.build()), (String::new(), lines, Some(0)));
+}
+
+/// A product's own crate counts, and of those that it depends on the ones without a stamp, with a file later than it, or
+/// on top of such a crate.
 #[test]
-fn the_expected_time_is_that_of_what_is_not_proved() {
+fn the_expected_time_is_that_of_what_is_to_be_proved() {
     let place = Repository::new("expected-time");
-    let lines = "tsendurkho: proving the run program, about 3 minutes\ntsendurkho: proving the archive, about 2 minutes\n";
-    assert_eq!(
-        parts(&place.build()),
-        (String::new(), lines.to_string(), Some(0))
-    );
-    place.write("target/stamp/only", "");
-    place.write("crates/only/src/lib.rt", "second\n");
-    let lines = "tsendurkho: proving the run program, about 1 minute\ntsendurkho: proving the archive, about 1 minute\n";
-    assert_eq!(
-        parts(&place.build()),
-        (String::new(), lines.to_string(), Some(0))
-    );
+    let changed = |text| {
+        place.write("crates/only/src/lib.rt", text);
+        fs::create_dir_all(place.0.join("crates/blockrun")).expect("a folder can be made");
+    };
+    changed("first\n");
+    assert_says(&place, "3 minutes", "2 minutes");
+    for (kept, program, archive) in [
+        ("only", "1 minute", "1 minute"),
+        ("blockrun", "3 minutes", "2 minutes"),
+        ("only blockrun tsendurkho", "1 minute", "1 minute"),
+        ("", "3 minutes", "2 minutes"),
+    ] {
+        changed(kept);
+        place.stamp_all("@0");
+        for name in kept.split_whitespace() {
+            place.stamp(name, "tomorrow");
+        }
+        assert_says(&place, program, archive);
+    }
 }
 
 /// Of a changed, a new or a renamed source, or of one put back as it was.

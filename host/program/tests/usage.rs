@@ -85,12 +85,29 @@ fn options_and_arguments_that_a_command_does_not_take() {
 
 /// The programs of the host side read their own arguments.
 #[test]
-fn options_that_a_tool_does_not_take() {
-    for tool in ["simulate", "compare", "mutate"] {
-        assert_wrong(
-            &[tool, "--fast"],
-            &format!("{tool}: there is no option '--fast'; try ./tsendurkho {tool} --help"),
-        );
+fn arguments_that_a_tool_does_not_take() {
+    for (words, said) in [
+        (&["simulate", "--fast"][..], "there is no option '--fast'"),
+        (&["simulate", "1", "2"], "one argument too many: '2'"),
+        (&["compare", "--fast"], "there is no option '--fast'"),
+        (&["compare", "1", "2", "3"], "one argument too many: '3'"),
+        (&["mutate", "--fast"], "there is no option '--fast'"),
+        (
+            &["mutate", "lug"],
+            "'lug' is no library that crates.txt lists",
+        ),
+        (
+            &["mutate", "--only", "no such edit", "lag"],
+            "no edit is --only 'no such edit'",
+        ),
+        (
+            &["mutate", "--list", "--only", "999999", "lag"],
+            "no edit is --only '999999'",
+        ),
+    ] {
+        let tool = words[0];
+        let line = format!("{tool}: {said}; try ./tsendurkho {tool} --help");
+        assert_wrong(words, &line);
     }
 }
 

@@ -1,0 +1,24 @@
+# How long the proof of `crate`, and of what it depends on, will take. What is read: the names of the crates that need no
+# proof, crates.txt, and the table of docs/ECONOMY.md.
+
+/^[A-Za-z_0-9]+:/ { name = $1; sub(/:$/, "", name); depends[name] = $0; next }
+NF == 1 { kept[$1] }
+NF == 15 { seconds[$2] = $14 }
+
+END {
+    delete kept[crate]
+    is_to_be_proved(crate)
+    minutes = int((total + 59) / 60)
+    print "about " (minutes > 1 ? minutes " minutes" : "1 minute")
+}
+
+# A crate is proved anew if one is that it depends on.
+function is_to_be_proved(crate,    parts, count, i) {
+    if (crate in known) return known[crate]
+    if (!(crate in depends)) return 0
+    known[crate] = !(crate in kept)
+    count = split(depends[crate], parts, " ")
+    for (i = 2; i <= count; i++) if (is_to_be_proved(parts[i])) known[crate] = 1
+    if (known[crate]) total += seconds[crate]
+    return known[crate]
+}
