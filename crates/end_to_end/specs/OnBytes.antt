@@ -13,7 +13,7 @@ use Rattle.rules.specs.Refusals.{counterRefusal, stepBytesRefusal}
 use Rattle.rules.specs.Calls.{stepBytesOut}
 use Rattle.settle.specs.Run.{Cards}
 
--- the bytes of a record, "two bytes a word"
+-- the bytes of a record. RULES 10.1: "a word is two bytes"
 abbrev pub recordBytes : ℕ → ℕ
 recordBytes f = 2 * recordWords f
 

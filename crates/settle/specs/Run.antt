@@ -9,7 +9,7 @@ use Rattle.rules.specs.Parameters.{recordWords}
 use Rattle.rules.specs.OneBeat.{groupNext}
 use Rattle.rules.specs.WholeBeat.{tableAfter}
 
--- "With at most f broken cards": of n cards, n > 3f, at most f are not sound
+-- RULES 13: "Let at most f cards be broken", of n cards, n > 3f: at most f are not sound
 pub record Cards (n f : ℕ) (sound : ℕ → Bool) : Type 0 where
   pub few : 3 * f < n
   pub broken : countBelow n (λ u. not (sound u)) ≤ f

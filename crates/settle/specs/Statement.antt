@@ -1,4 +1,4 @@
--- What is proved of the counter: demand 3, over single steps and over whole beats.
+-- What is proved of the counter: what RULES 13 promises, over single steps and over whole beats.
 use mathlib.Core.Path.{_≡_}
 use mathlib.Core.Bool.{Bool, true, false}
 use mathlib.Core.List.{List}
