@@ -32,7 +32,7 @@ pub record Agreed (n c : ℕ) (sound : ℕ → Bool) (x : ℕ) (s : ℕ → Stan
   pub below : x < c
 
 module _ (n f : ℕ) (sound : ℕ → Bool) (cards : Cards n f sound) (c : ℕ) where
-  -- a count that a card finds supported lies below c, more than f cards told it, and a sound one did
+  -- a count that a card finds supported lies below c, more than f cards sent it, and a sound one did
   supported-is : (heard : ℕ → Vote) (i : ℕ) → supported n f c heard ≡ Count i
       → (i < c) × (f < sentBy n heard (Count i)) × ((u : ℕ) × (u < n) × (sound u ≡ true) × (heard u ≡ Count i))
   unfolding supported sentBy
@@ -42,7 +42,7 @@ module _ (n f : ℕ) (sound : ℕ → Bool) (cards : Cards n f sound) (c : ℕ) 
       let u = sound-one n f sound cards (λ u. same (heard u) (Count i)) m in
       (r .0, m, (u .0, u .1, u .2, same-true (heard (u .0)) (Count i) (u .3)))
 
-  -- where n-f cards tell one card a count, any other card finds some count supported
+  -- where n-f cards send one card a count, any other card finds some count supported
   enough-supported : (x y : ℕ → Vote) (i : ℕ) → ((u : ℕ) → u < n → sound u ≡ true → x u ≡ y u) → i < c
       → enough n f (sentBy n x (Count i)) ≡ true → (j : ℕ) × (supported n f c y ≡ Count j)
   unfolding supported sentBy enough
@@ -51,7 +51,7 @@ module _ (n f : ℕ) (sound : ℕ → Bool) (cards : Cards n f sound) (c : ℕ) 
       (lt-ltb f _
       (carry n f sound cards (λ u. same (x u) (Count i)) (λ u. same (y u) (Count i)) (leb-true n _ e) (λ u lu su t. rw (h u lu su) at t)))
 
-  -- a count that all sound cards tell is the one found
+  -- a count that all sound cards send is the one found
   all-supported : (heard : ℕ → Vote) (x : ℕ) → x < c → ((u : ℕ) → u < n → sound u ≡ true → heard u ≡ Count x)
       → supported n f c heard ≡ Count x
   all-supported heard x l h =

@@ -9,8 +9,8 @@ use Rattle.feed.proofs.feed_from.Statement.{statement}
 use Rattle.feed.proofs.feed_from.Tie as tie
 
 within : (c : tie.After-line-end)
-    → let s = c .before .before .before in
-    c .line-end .result ≤ length (s .args .piece .now)
+    → let start = c .before .before .before in
+    c .line-end .result ≤ length (start .args .piece .now)
 within c =
     let a = c .before .before .before .args in
     rw (c .line-end .ensures) (end-within (a .piece .now) (c .before .least .result) (omega (arith, c .before .least .ensures)))

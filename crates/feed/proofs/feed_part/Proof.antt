@@ -14,12 +14,12 @@ use Rattle.feed.proofs.feed_part.Tie as tie
 
 hold-requires : tie.Need-hold-requires
 hold-requires c κs =
-    let s = c .before .before .before .before in
-    let part = s .pre .0 in
+    let start = c .before .before .before .before in
+    let part = start .pre .0 in
     record {
-      line-size = s .pre .1 .line-size;
+      line-size = start .pre .1 .line-size;
       forward = omega (arith, part .at-end);
-      inside = rw (part .at-end) (end-within (s .args .piece .now) (s .args .from) (part .inside));
+      inside = rw (part .at-end) (end-within (start .args .piece .now) (start .args .from) (part .inside));
     }
 
 unfinished : tie.Need-returns
@@ -27,26 +27,26 @@ unfolding machineOf
 unfinished c =
     let k = c .before .before .before in
     let h = k .hold in
-    let s = k .before .before .before .before .before in
-    let a = s .args in
+    let start = k .before .before .before .before .before in
+    let a = start .args in
     let line = a .line .now in
     let piece = a .piece .now in
     let stage = stageOf (a .stage) (a .table .now) in
     let part = take (a .end - a .from) (drop (a .from) piece) in
     record {
       held-is = h .ensures .kept;
-      stands = rw (fed-held line (a .held) (s .pre .1 .line-size) stage piece (a .from) (a .end) (s .pre .0) (c .if1 .taken))
+      stands = rw (fed-held line (a .held) (start .pre .1 .line-size) stage piece (a .from) (a .end) (start .pre .0) (c .if1 .taken))
           (holds-stands (a .stage) (a .held) (h .result) line part (a .table .now) (a .out .now) _ (h .ensures));
     }
 
 end-line-requires : tie.Need-end-line-requires
 end-line-requires c κs =
     let h = c .before .before .before .before .before .before in
-    let s = h .before .before .before .before .before in
-    let a = s .args in
+    let start = h .before .before .before .before .before in
+    let a = start .args in
     let part = take (a .end - a .from) (drop (a .from) (a .piece .now)) in
     let all = length-take longest (take (a .held) (a .line .now) ++ part) in
-    (omega (arith, s .pre .1 .line-size, h .hold .kept .0, h .hold .ensures .count, all), s .pre .1 .table-size)
+    (omega (arith, start .pre .1 .line-size, h .hold .kept .0, h .hold .ensures .count, all), start .pre .1 .table-size)
 
 finished : tie.Need-returns-2
 unfolding machineOf
@@ -55,17 +55,17 @@ finished c =
     let e = t .before .before .before .before in
     let k = e .before .before .before in
     let h = k .hold in
-    let s = k .before .before .before .before .before in
-    let a = s .args in
+    let start = k .before .before .before .before .before in
+    let a = start .args in
     let line = a .line .now in
     let piece = a .piece .now in
     let stage = stageOf (a .stage) (a .table .now) in
-    let part = s .pre .0 in
+    let part = start .pre .0 in
     let l = end-within piece (a .from) (part .inside) in
     let before : a .end < length piece = omega (arith, l, part .at-end, e .if1 .left) in
     record {
       held-is = h .ensures .kept;
-      stands = rw (fed-ended line (a .held) (s .pre .1 .line-size) stage piece (a .from) (a .end) part before)
+      stands = rw (fed-ended line (a .held) (start .pre .1 .line-size) stage piece (a .from) (a .end) part before)
           (rw (h .ensures .whole) at (t .end-line .ensures));
     }
 

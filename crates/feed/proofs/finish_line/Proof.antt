@@ -23,40 +23,40 @@ none c =
 
 -- the machine after the last line
 abbrev last : tie.Start → Machine
-last s = ended (stageOf (s .args .stage) (s .args .table .now)) (take (s .args .held) (s .args .line .now)) []
+last start = ended (stageOf (start .args .stage) (start .args .table .now)) (take (start .args .held) (start .args .line .now)) []
 
 -- it stands so once the line is ended
 stands : (c : tie.After-end-line)
-    → let s = c .before .before .before .before .before .before .before in
+    → let start = c .before .before .before .before .before .before .before in
     let e = c .end-line in
-    Stands (last s) (e .result .feed) (e .result .written) (s .args .table .now) (s .args .out .now) (s .args .line .now)
+    Stands (last start) (e .result .feed) (e .result .written) (start .args .table .now) (start .args .out .now) (start .args .line .now)
     (e .last .1 .1 .1 .0) (e .last .1 .1 .1 .1 .0)
 stands c =
     let l = c .before .before .before in
-    let s = l .before .before .before .before in
-    rw (l .least .ensures, held-min (s .args .line .now) (s .args .held) (s .pre .line-size)) at (c .end-line .ensures)
+    let start = l .before .before .before .before in
+    rw (l .least .ensures, held-min (start .args .line .now) (start .args .held) (start .pre .line-size)) at (c .end-line .ensures)
 
 -- and it is the machine that the input leaves
-left : (s : tie.Start) → 0 < s .args .held
-    → lastFed (machineOf (Reading (s .args .stage) (s .args .held)) (s .args .line .now) (s .args .table .now)) ≡ last s
-left s l =
-    let a = s .args in
-    finished-is (a .stage) (a .held) (a .line .now) (a .table .now) (s .pre .line-size) l
+left : (start : tie.Start) → 0 < start .args .held
+    → lastFed (machineOf (Reading (start .args .stage) (start .args .held)) (start .args .line .now) (start .args .table .now)) ≡ last start
+left start l =
+    let a = start .args in
+    finished-is (a .stage) (a .held) (a .line .now) (a .table .now) (start .pre .line-size) l
 
 refused : tie.Need-returns-2
 refused c =
     let t = c .before .before .before .before in
     let e = t .before .before .before .before in
-    let s = e .before .before .before in
-    let a = s .args in
+    let start = e .before .before .before in
+    let a = start .args in
     finishes-refused _ _ (a .table .now) (a .out .now) (a .line .now) _ _ _ _
-    (left s (omega (arith, e .if1 .left))) (c .enum-told .given .1) (stands t)
+    (left start (omega (arith, e .if1 .left))) (c .enum-told .given .1) (stands t)
 
 -- one of the two is empty
 one : (c : tie.After-last)
     → let t = c .before .before .before .before in
-    let s = t .before .before .before .before .before .before .before in
-    (writtenBy (last s) ≡ []) ⊎ (missing (c .last .given .0 .0) ≡ [])
+    let start = t .before .before .before .before .before .before .before in
+    (writtenBy (last start) ≡ []) ⊎ (missing (c .last .given .0 .0) ≡ [])
 one c =
     let t = c .before .before .before .before in
     one-written _ _ _ (c .last .given .0 .1 .0) (sym (stands t .feed-is) ∙ c .last .given .1)
@@ -75,11 +75,11 @@ accepted c =
     let k = c .before .before .before in
     let t = k .before .before .before .before in
     let e = t .before .before .before .before in
-    let s = e .before .before .before in
-    let a = s .args in
+    let start = e .before .before .before in
+    let a = start .args in
     let missed = c .put-missing2 .ensures in
     finishes-accepted _ _ (a .table .now) (a .out .now) (a .line .now) _ _ _ _ _ (k .last .given .0 .1 .0) _ _
-    (left s (omega (arith, e .if1 .left))) (k .last .given .1) (one k) (stands t) (missed .0) (missed .1)
+    (left start (omega (arith, e .if1 .left))) (k .last .given .1) (one k) (stands t) (missed .0) (missed .1)
 
 pub finish-line-spec : {M : Type 1} → statement M
 finish-line-spec =
