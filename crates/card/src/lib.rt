@@ -19,7 +19,7 @@ fn clear(out: &mut [u16])
 }
 
 // Refusals 1, 2, 3, 4, 5, 6.
-fn step_refusal(n: u32, f: u32, c: u32, card: u32, records: usize, out: usize) -> u32
+pub fn step_refusal(n: u32, f: u32, c: u32, card: u32, records: usize, out: usize) -> u32
     ensures { λ r. ⌜ r ≡ stepRefusal n f c card records out ⌝ }
 {
     let refusal = params::counter_refusal(n, f, c);

@@ -83,3 +83,11 @@ copied-whole from to e =
     (λ i l.
     let here : i < length from = omega (arith, length-sets to 0 words) in
     rw (zero-add i) at (written words to 0 i (omega arith) (omega arith) ∙ tabulate-at (length from) _ i here))
+
+-- the words that a list begins with
+pub words-first : (words rest : List ℕ) (count : ℕ) → length words ≡ count → wordsFrom (words ++ rest) 0 count ≡ words
+words-first words rest count e =
+    ext-getD 0 _ words (tabulate-length count _ ∙ sym e)
+    (λ i l.
+    let here : i < count = omega (arith, tabulate-length count (λ (j : ℕ). getD (words ++ rest) (0 + j) 0)) in
+    tabulate-at count _ i here ∙ rw (zero-add i) (before-seam words rest i (omega arith)))

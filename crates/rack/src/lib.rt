@@ -22,7 +22,7 @@ struct Rack {
 }
 
 // Copies words of one table to a place of another.
-fn copy_words(from: &[u16], at: usize, to: &mut [u16], place: usize, count: usize)
+pub fn copy_words(from: &[u16], at: usize, to: &mut [u16], place: usize, count: usize)
     requires { ⌜ (at + count ≤ length (now from)) × (place + count ≤ length (now to)) ⌝ }
     ensures { λ _. ⌜ now (to .exit) ≡ sets (now (to .entry)) place (wordsFrom (now (from .entry)) at count) ⌝ }
 {

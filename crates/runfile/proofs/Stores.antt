@@ -17,9 +17,6 @@ one-kept line piece held from i l =
     let n : length (take i d) ≡ i = length-take-le i d (omega (arith, length-drop from piece)) in
     rw (add-one i, take-suc d i 0 (omega (arith, length-drop from piece)), sets-append (take i d) (getD d i 0 ∷ []) line held, n, getD-drop from piece i 0)
 
-pub one-copied : (table words : List ℕ) (i : ℕ) → i < length words → set (sets table 0 (take i words)) i (getD words i 0) ≡ sets table 0 (take (i + 1) words)
-one-copied table words i l = let z : 0 + i ≡ i = omega arith in rw z at (one-kept table words 0 0 i (omega arith))
-
 -- what is stored at the start of a buffer is taken from there
 pub first-taken : (buffer words : List ℕ) (k : ℕ) → length words ≡ k → k ≤ length buffer → take k (sets buffer 0 words) ≡ words
 first-taken buffer words k e l = rw (← (prefix-stored buffer words k e l)) (take-at words (drop k buffer) k e)

@@ -96,17 +96,6 @@ fn room_for_line() -> [u16; 2000]
     [0; 2000]
 }
 
-// Copies words to the start of a table.
-fn copy_words(words: &[u16], table: &mut [u16])
-    requires { ⌜ length (now words) ≤ length (now table) ⌝ }
-    ensures { λ _. ⌜ now (table .exit) ≡ sets (now (table .entry)) 0 (now (words .entry)) ⌝ }
-{
-    let count = words.len();
-    for j in 0..count {
-        table[j] = words[j];
-    }
-}
-
 // The records after a beat, in the place of those before it.
 fn beat_records(h: Header, sent: &[u16], table: &mut [u16])
     requires { ⌜ (headerTests (said h) ≡ 0) × (length (now sent) ≡ beatWords (said h)) × (400 ≤ length (now table)) ⌝ }
@@ -123,7 +112,7 @@ fn beat_records(h: Header, sent: &[u16], table: &mut [u16])
         sent,
         &mut next[..words],
     );
-    copy_words(&next[..words], table);
+    rack::copy_words(&next, 0, table, 0, words);
 }
 
 // The same, with the words that the broken cards send on a line.

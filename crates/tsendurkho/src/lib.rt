@@ -6,6 +6,7 @@ ghost use Rattle.rules.specs.Counting.{tabulate};
 ghost use Rattle.rules.specs.Bytes.{wordAt, bytesOf};
 ghost use Rattle.rules.specs.Refusals.{stepRefusal, stepBytesRefusal, lagRefusal};
 ghost use Rattle.rules.specs.Calls.{stepOut, stepBytesOut, lagAnswer};
+ghost use Rattle.tsendurkho.specs.Lengths.{wordsIn};
 
 // W of the largest f, and n·W of the largest n.
 const MOST_WORDS: usize = 25;
@@ -15,25 +16,18 @@ const MOST_TABLE: usize = 400;
 // n·W of 7 cards with f = 1, and one more.
 const FEW_WORDS: usize = 64;
 
-// Refusals 1, 2, 3, 4, 5, 6; "an odd byte count is a wrong length".
+// How many words some bytes are. 0, which is the length of no record, for an odd number of them: RULES 10.1.
+fn words_in(bytes: usize) -> usize
+    ensures { λ r. ⌜ r ≡ wordsIn bytes ⌝ }
+{
+    if bytes % 2 == 0 { bytes / 2 } else { 0 }
+}
+
+// Refusals 1, 2, 3, 4, 5, 6, of lengths in bytes.
 fn step_refusal(n: u32, f: u32, c: u32, card: u32, records: usize, out: usize) -> u32
     ensures { λ r. ⌜ r ≡ stepBytesRefusal n f c card records out ⌝ }
 {
-    let refusal = params::counter_refusal(n, f, c);
-    if refusal != 0 {
-        return refusal;
-    }
-    if n <= card {
-        return 4;
-    }
-    let w = params::record_words(f);
-    if records != (2 * (n * w)) as usize {
-        return 5;
-    }
-    if out != (2 * w) as usize {
-        return 6;
-    }
-    0
+    card::step_refusal(n, f, c, card, words_in(records), words_in(out))
 }
 
 // The step by way of words, where it is not refused: those of the records heard, and those of the next record.

@@ -1,57 +1,16 @@
--- `tsendurkho::step_refusal` meets its contract: each return rewrites with the tests that led there.
+-- `tsendurkho::step_refusal` meets its contract: it refuses as the step on words does.
 use borrow.Author.Needs.{needs}
-use borrow.Author.Tests.{eq-eqb, ne-eqb, le-leb, lt-leb}
-use mathlib.Core.Path.{_≡_, sym, _∙_}
-use Prim.Native.Nat.{ℕ, _*_, _≤_}
-use native.Mathlib.Omega.{arith}
-use lib.Dec.{leb}
-use Rattle.rules.specs.Parameters.{recordWords}
-use Rattle.rules.specs.Refusals.{given, wrong, stepBytesRefusal}
-use Rattle.rules.proofs.Records.{words-most, table-most}
-use Rattle.rules.proofs.Shapes.{counter-refused, counter-passed, counter-shape}
+use mathlib.Core.Path.{_∙_}
+use Rattle.tsendurkho.proofs.Lengths.{refused-alike}
 use Rattle.tsendurkho.proofs.step_refusal.Statement.{statement}
 use Rattle.tsendurkho.proofs.step_refusal.Tie as tie
 
--- what is tested after 3
-abbrev rest : ℕ → ℕ → ℕ → ℕ → ℕ → ℕ
-rest n w card records out = given 4 (leb n card) (given 5 (wrong records (2 * (n * w))) (given 6 (wrong out (2 * w)) 0))
-
-refused : tie.Need-returns
-refused c =
-    let a = c .before .before .args in
-    counter-refused (a .n) (a .f) (a .c) (rest (a .n) (recordWords (a .f)) (a .card) (a .records) (a .out)) _ (c .before .counter-refusal .ensures) (c .if1 .taken)
-
--- refusals 1 to 3 are not given
-later : (c : tie.Else1)
-    → stepBytesRefusal (c .before .before .args .n) (c .before .before .args .f) (c .before .before .args .c) (c .before .before .args .card) (c .before .before .args .records) (c .before .before .args .out)
-    ≡ rest (c .before .before .args .n) (recordWords (c .before .before .args .f)) (c .before .before .args .card) (c .before .before .args .records) (c .before .before .args .out)
-later c =
-    let a = c .before .before .args in
-    counter-passed (a .n) (a .f) (a .c) (rest (a .n) (recordWords (a .f)) (a .card) (a .records) (a .out)) _ (c .before .counter-refusal .ensures) (c .if1 .left)
-
--- a table of records is small, and so is a record
-small : (c : tie.After-record-words) → (c .before .before .before .before .args .n * c .record-words .result ≤ 400) × (c .record-words .result ≤ 25)
-small c =
-    let p = c .before .before in
-    let a = p .before .before .args in
-    let s = counter-shape (a .n) (a .f) (a .c) (sym (p .before .counter-refusal .ensures) ∙ p .if1 .left) in
-    rw (c .record-words .ensures) (table-most (a .n) (a .f) (s .cards) (s .broken), words-most (a .f) (s .broken))
+returns : tie.Need-returns
+returns c =
+    let a = c .before .before .before .args in
+    c .step-refusal .ensures
+    ∙ rw (c .before .before .words-in .ensures, c .before .words-in2 .ensures)
+    (refused-alike (a .n) (a .f) (a .c) (a .card) (a .records) (a .out))
 
 pub step-refusal-spec : {M : Type 1} → statement M
-step-refusal-spec =
-    tie.close
-    (tie.spec
-    (λ c κs. search needs)
-    refused
-    (λ c. sym (later (c .before) ∙ rw (le-leb _ _ (c .if2 .taken))))
-    (λ c κs. search needs)
-    (λ c. omega (arith, small c .0))
-    (λ c. omega (arith, small c .0))
-    (λ c. omega (arith, small c .0))
-    (λ c. let p = c .before .before in sym (later (p .before) ∙ rw (← (c .before .record-words .ensures), lt-leb _ _ (p .if2 .left), ne-eqb _ _ (c .if3 .taken))))
-    (λ c. omega (arith, small (c .before) .1))
-    (λ c. search needs)
-    (λ c. let p = c .before .before .before in
-    sym (later (p .before) ∙ rw (← (c .before .before .record-words .ensures), lt-leb _ _ (p .if2 .left), eq-eqb _ _ (c .before .if3 .left), ne-eqb _ _ (c .if4 .taken))))
-    (λ c. let p = c .before .before .before in
-    sym (later (p .before) ∙ rw (← (c .before .before .record-words .ensures), lt-leb _ _ (p .if2 .left), eq-eqb _ _ (c .before .if3 .left), eq-eqb _ _ (c .if4 .left)))))
+step-refusal-spec = tie.close (tie.spec (λ c κs. search needs) (λ c κs. search needs) (λ c κs. search needs) returns)
