@@ -99,13 +99,14 @@ pub record LinePart (piece : List ℕ) (from end : ℕ) : Type 0 where
   pub inside : from ≤ length piece
   pub at-end : end ≡ endFrom piece from
 
--- such a part is fed to a run that reads a line
+-- such a part is fed to a run that reads
 pub record FeedsPart (stage : KeptStage) (held : ℕ) (piece : List ℕ) (from end : ℕ) (line table out : List ℕ)
     (feed : Feed) (written : ℕ) (lineNext tableNext outNext : List ℕ) : Type 0 where
   pub held-is : lineNext ≡ heldWith line held (take (end - from) (drop from piece))
   pub stands :
       Stands (fed (machineOf (Reading stage held) line table) (partTo piece from end)) feed written table out lineNext tableNext outNext
 
+-- the buffer of the line when a piece was fed from a place on
 unfoldable pub lineAfter : Feed → List ℕ → ℕ → List ℕ → List ℕ
 lineAfter (Reading stage held) piece at line =
     heldWith line held (take (lineEnd piece at - placeIn piece at) (drop (placeIn piece at) piece))
