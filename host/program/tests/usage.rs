@@ -43,7 +43,7 @@ fn refused(words: &[&str], said: &str) {
 
 #[test]
 fn a_command_that_there_is_not() {
-    for command in ["walk", "", "--fast", "r.n"] {
+    for command in ["walk", "", "--fast", "r.n", "usage:"] {
         let said = format!("tsendurkho: there is no command '{command}'; try ./tsendurkho help");
         assert_wrong(&[command], &said);
     }
