@@ -1,5 +1,7 @@
 //! The proved run program, started as its users start it: by the launcher at the root of the repository.
 
+pub mod page;
+
 use std::env;
 use std::fs;
 use std::io::{ErrorKind, Write};
