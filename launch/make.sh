@@ -17,29 +17,40 @@ is_made() { # PRODUCT
     [ -f "$root/$1" ] && { sum_of_sources && sha256sum <"$root/$1"; } | cmp -s - "$root/target/made/${1##*/}"
 }
 
-# Makes what is named and is not made of these sources.
-provide() { # PRODUCT...
+not_made() { # PRODUCT...
     for product; do
-        is_made "$product" || make_one "$product"
+        is_made "$product" || echo "$product"
     done
 }
 
-make_one() { # PRODUCT
-    command -v rt >/dev/null || fail "$(name_of "$1") is proved and built by the Rattle kit, and rt is not on the PATH"
+# Makes what is named and is not made of these sources. No product has a space in its name.
+provide() { # PRODUCT...
+    missing=$(not_made "$@")
+    [ -n "$missing" ] || return 0
+    command -v rt >/dev/null || fail "$(names_of "$@") cannot be proved and built: the Rattle kit's rt is not on the PATH"
     wait_for_others
-    if ! is_made "$1"; then
-        announce "proving $(name_of "$1"), $(expected_time "$1")"
-        sources=$(sum_of_sources)
-        build "$1" || fail_with_log "$(name_of "$1") could not be built"
-        mkdir -p "$root/target/made"
-        { printf '%s\n' "$sources" && sha256sum <"$root/$1"; } >"$root/target/made/${1##*/}"
-        [ ! -t 2 ] || printf '\r\033[K' >&2
-    fi
+    # shellcheck disable=SC2086
+    missing=$(not_made $missing)
+    # shellcheck disable=SC2086
+    [ -z "$missing" ] || make $missing
     exec 9<&-
 }
 
-name_of() { # PRODUCT
-    [ "$1" = "$program" ] && echo "the run program" || echo "the archive"
+make() { # PRODUCT...
+    announce "proving $(names_of "$@"), $(expected_time "$@")"
+    mkdir -p "$root/target/made"
+    for product; do
+        sources=$(sum_of_sources)
+        build "$product" || fail_with_log "$(names_of "$product") could not be built"
+        { printf '%s\n' "$sources" && sha256sum <"$root/$product"; } >"$root/target/made/${product##*/}"
+    done
+    [ ! -t 2 ] || printf '\r\033[K' >&2
+}
+
+names_of() { # PRODUCT...
+    for product; do
+        [ "$product" = "$program" ] && echo "the run program" || echo "the archive"
+    done | paste -s -d '&' - | sed 's/&/ and /'
 }
 
 crate_of() { # PRODUCT
@@ -65,9 +76,10 @@ announce() { # TEXT
     fi
 }
 
-# How long a product takes, by the table's seconds: its own crate, and those before it that rt has to prove.
-expected_time() { # PRODUCT
-    { kept_crates && cat "$root/crates.txt" "$root/docs/ECONOMY.md"; } | awk -v crate="$(crate_of "$1")" -f "$root/launch/time.awk"
+# How long it takes, by the table's seconds: the products' own crates, and those before them that rt has to prove.
+expected_time() { # PRODUCT...
+    asked=$(for product; do crate_of "$product"; done)
+    { kept_crates && cat "$root/crates.txt" "$root/docs/ECONOMY.md"; } | awk -v asked="$(echo $asked)" -f "$root/launch/time.awk"
 }
 
 # The crates that rt has proved and that have no later file.

@@ -1,13 +1,14 @@
-# How long the proof of `crate`, and of what it depends on, will take. What is read: the names of the crates that need no
-# proof, crates.txt, and the table of docs/ECONOMY.md.
+# How long the proof of the crates `asked` for, and of what they depend on, will take. What is read: the names of the crates
+# that need no proof, crates.txt, and the table of docs/ECONOMY.md.
 
 /^[A-Za-z_0-9]+:/ { name = $1; sub(/:$/, "", name); depends[name] = $0; next }
 NF == 1 { kept[$1] }
 NF == 15 { seconds[$2] = $14 }
 
 END {
-    delete kept[crate]
-    is_to_be_proved(crate)
+    count = split(asked, crates, " ")
+    for (i = 1; i <= count; i++) delete kept[crates[i]]
+    for (i = 1; i <= count; i++) is_to_be_proved(crates[i])
     minutes = int((total + 59) / 60)
     print "about " (minutes > 1 ? minutes " minutes" : "1 minute")
 }
