@@ -2,22 +2,33 @@
 use borrow.Author.Needs.{needs}
 use borrow.Author.Tests.{ne-eqb}
 use mathlib.Core.Path.{_≡_, refl, sym, _∙_}
+use Prim.Native.Nat.{ℕ}
 use native.Mathlib.Omega.{arith}
 use lib.ListN.{length}
 use Rattle.rules.specs.Refusals.{stepRefusal}
 use Rattle.rules.specs.Calls.{stepOut}
+use Rattle.card.proofs.Lengths.{in-words}
 use Rattle.card.proofs.step.Statement.{statement}
 use Rattle.card.proofs.step.Tie as tie
 
+-- the refusal of the step
+abbrev refusal : tie.Start → ℕ
+refusal s =
+    let a = s .args in
+    stepRefusal (a .n) (a .f) (a .c) (a .card) (length (a .records .now)) (length (a .out .now))
+
+tested : (c : tie.After-step-refusal) → c .step-refusal .result ≡ refusal (c .before .before .before)
+tested c =
+    let a = c .before .before .before .args in
+    c .step-refusal .ensures ∙ in-words (a .n) (a .f) (a .c) (a .card) _ _
+
 refused : tie.Need-returns
 unfolding stepOut
-refused c = rw (← (c .before .step-refusal .ensures), ne-eqb _ _ (c .if1 .taken)) (refl, refl)
+refused c = rw (← (tested (c .before)), ne-eqb _ _ (c .if1 .taken)) (refl, refl)
 
 -- nothing is refused
-good : (c : tie.Else1)
-    → let a = c .before .before .before .before .args in
-    stepRefusal (a .n) (a .f) (a .c) (a .card) (length (a .records .now)) (length (a .out .now)) ≡ 0
-good c = sym (c .before .step-refusal .ensures) ∙ c .if1 .left
+good : (c : tie.Else1) → refusal (c .before .before .before .before) ≡ 0
+good c = sym (tested (c .before)) ∙ c .if1 .left
 
 put-next-requires : tie.Need-put-next-requires
 put-next-requires c κs =
