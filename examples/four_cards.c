@@ -13,19 +13,17 @@ enum {
     CARDS = 4,
     BROKEN = 1,
     MODULUS = 1000,
-    WORDS = 9, /* in a record, for f = 1 */
-    BYTES = 2 * WORDS,
-    COUNT = 6, /* where the count stands in a record */
     SILENT = 3,
-    ALIKE = 5,    /* beats to see before the example ends */
-    SETTLED = 192 /* T(f) for f = 1: from this beat on they show one same count */
+    ALIKE = 5,                                 /* beats to see before the example ends */
+    SETTLED = TSENDURKHO_SETTLE_BEATS(BROKEN), /* from this beat on they show one same count */
+    COUNT = 2 * TSENDURKHO_COUNT_WORD(BROKEN)  /* the count's low byte in a record */
 };
 
-typedef uint8_t Record[BYTES];
+typedef uint8_t Record[TSENDURKHO_RECORD_BYTES(BROKEN)];
 
 static unsigned count_of(const uint8_t *record)
 {
-    return record[2 * COUNT] + 256u * record[2 * COUNT + 1];
+    return TSENDURKHO_COUNT_OF(BROKEN, record);
 }
 
 static void start(Record held[CARDS])
@@ -34,7 +32,7 @@ static void start(Record held[CARDS])
 
     memset(held, 0, CARDS * sizeof(Record));
     for (int card = 0; card < CARDS; card++) {
-        held[card][2 * COUNT] = counts[card];
+        held[card][COUNT] = counts[card];
     }
     memset(held[SILENT], 0xff, sizeof(Record));
 }

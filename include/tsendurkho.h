@@ -3,16 +3,21 @@
  *
  * Up to sixteen cards share a beat that carries no number. On every beat each
  * card hears a record from every card of the group, its own included, and
- * makes of them its next record. The sound cards come to show one same count
- * modulo c, one more on each beat, though up to f of the n cards are broken.
+ * makes of them its next record. Whatever the cards hold at the start, and
+ * though up to f of the n cards are broken, from beat T(f) on all sound cards
+ * show one same count modulo c, and one more on each later beat:
+ *
+ *     f    |  0    1    2    3    4    5
+ *     T(f) |  1  192  446  509  826  889      beats
  *
  * Link libtsendurkho.a; of the C library it needs memcpy and memset. No call
  * keeps anything between calls, allocates or calls back, so calls from several
  * threads do not disturb one another. A step needs at most 2,144 bytes of
- * stack (docs/PERFORMANCE.md).
+ * stack (docs/PERFORMANCE.md). docs/FIRMWARE.md is for those who write a
+ * card's firmware, docs/RULES.md ("RULES" below) has the rules.
  *
  *
- * A record
+ * A record (RULES 4)
  *
  * A record is W words of 16 bits, and a word is two bytes, the low byte first:
  *
@@ -32,8 +37,8 @@
  * that a card shows is the a of the outermost group: word 0 of its record if
  * f = 0, else word 6; 65,535 (and any a at or above c) is none.
  *
- * Any words may be given: those out of range are read as the rules say. A card
- * may start from any record at all.
+ * Any words may be given: those out of range are read as the rules say (RULES
+ * 4.2). A card may start from any record at all.
  */
 #ifndef TSENDURKHO_H
 #define TSENDURKHO_H
@@ -59,6 +64,38 @@ extern "C" {
 
 /* The word for none. */
 #define TSENDURKHO_NONE 65535u
+
+/* The largest n and the largest f (RULES 2.1). */
+#define TSENDURKHO_MOST_CARDS 16u
+#define TSENDURKHO_MOST_BROKEN 5u
+
+/*
+ * Sizes and times, for f from 0 to 5 (RULES 2.2). Where f is a constant, so are
+ * they: array sizes, enumeration constants and #if may have them. They may
+ * evaluate f, and record, more than once. Like this header, they are not proved.
+ */
+
+/* The binary digits of f: a card is in so many split groups (RULES 3). */
+#define TSENDURKHO_SPLIT_GROUPS(f)                                             \
+    ((f) > 3 ? 3u : (f) > 1 ? 2u : (f) > 0 ? 1u : 0u)
+
+/* W, the words of a record, and their bytes. */
+#define TSENDURKHO_RECORD_WORDS(f) (8u * TSENDURKHO_SPLIT_GROUPS(f) + 1u)
+#define TSENDURKHO_RECORD_BYTES(f) (2u * TSENDURKHO_RECORD_WORDS(f))
+
+/* The word of a record that is the count shown, the first being word 0. */
+#define TSENDURKHO_COUNT_WORD(f) ((f) == 0 ? 0u : 6u)
+
+/* That word of the record that begins at record, a pointer to uint8_t. It is a
+   count if it is below c, else none (RULES 7). */
+#define TSENDURKHO_COUNT_OF(f, record)                                         \
+    ((record)[2 * TSENDURKHO_COUNT_WORD(f)] +                                  \
+     256u * (record)[2 * TSENDURKHO_COUNT_WORD(f) + 1])
+
+/* T(f), in beats: T(0) = 1, and T(f) = T(f/2 rounded down) + 2 + 63(f+2). So it
+   is 1, and 128 + 63g for each g of f, f/2, f/4 (rounded down) that is not 0. */
+#define TSENDURKHO_SETTLE_BEATS(f)                                             \
+    (1u + 128u * TSENDURKHO_SPLIT_GROUPS(f) + 63u * ((f) + (f) / 2 + (f) / 4))
 
 /*
  * One card's step: writes the card's next record to out, from the n records

@@ -1,5 +1,5 @@
 /*
- * One card's step in plain C, straight from document 01, for the proved step to
+ * One card's step in plain C, straight from RULES 5, for the proved step to
  * be measured against. None is 65,535, which no count is.
  */
 #include "plain.h"

@@ -1,5 +1,5 @@
 /*
- * The whole beat in plain C, straight from document 01, for the proved beat to
+ * The whole beat in plain C, straight from RULES 6, for the proved beat to
  * be measured against. Its words have the low byte first, as x86-64 has them.
  */
 #include "plain.h"

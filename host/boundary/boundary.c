@@ -1,7 +1,9 @@
 /*
- * The exported calls at the edges of memory. Reads calls with their answers, as
- * src/main.rs writes them, and makes each with its buffers in several places: a
- * byte read or written outside them ends the program, or is seen afterwards.
+ * The exported calls at the edges of memory, and the header's sizes and times.
+ * Reads calls with their answers, as src/main.rs writes them, and makes each with
+ * its buffers in several places: a byte read or written outside them ends the
+ * program, or is seen afterwards. Holds the header's macros against what
+ * src/main.rs writes of records.
  */
 #define _DEFAULT_SOURCE
 #include <stdio.h>
@@ -12,6 +14,18 @@
 #include "tsendurkho.h"
 
 enum { PAGE = 4096, MOST_BYTES = 2 * 16 * 25 + 2, MOST_DIGITS = 2 * MOST_BYTES };
+
+/* The macros of a constant f are constants: of the size of an array, of an enumeration and of the preprocessor. */
+typedef struct {
+    uint8_t of_0[TSENDURKHO_RECORD_BYTES(0)], of_1[TSENDURKHO_RECORD_BYTES(1)], of_2[TSENDURKHO_RECORD_BYTES(2)],
+        of_3[TSENDURKHO_RECORD_BYTES(3)], of_4[TSENDURKHO_RECORD_BYTES(4)], of_5[TSENDURKHO_RECORD_BYTES(5)];
+} RecordOfEach;
+
+enum { COUNT_OF_NONE_BROKEN = TSENDURKHO_COUNT_WORD(0), COUNT_OF_ANY_BROKEN = TSENDURKHO_COUNT_WORD(1u) };
+
+#if TSENDURKHO_SETTLE_BEATS(5) != 889 || TSENDURKHO_RECORD_WORDS(TSENDURKHO_MOST_BROKEN) != 25
+#error "the preprocessor has other sizes or times"
+#endif
 
 typedef struct {
     uint8_t bytes[MOST_BYTES];
@@ -40,10 +54,14 @@ enum {
     LAG_ANSWERS = 1 | 1 << TSENDURKHO_BAD_MODULUS | 1 << TSENDURKHO_BAD_LAG
 };
 
+/* Each f from 0 to 5, a bit each. */
+enum { EACH_F = 0x3f };
+
 static Room records_room, out_room;
 static uint8_t *nowhere;
 static long lines, calls;
 static int step_answers, lag_answers; /* those that were looked for */
+static int nones_of, counts_of; /* each f of which a record showed none, and a count of two bytes, a bit each */
 
 static void fail(const char *what)
 {
@@ -211,17 +229,74 @@ static void try_lag(void)
     }
 }
 
+/* "The count that a card shows is the a of the outermost group". */
+static void try_count(uint32_t f, uint32_t c, const uint8_t *record, uint32_t shown)
+{
+    uint32_t word = TSENDURKHO_COUNT_OF(f, record);
+    if ((word < c ? word : TSENDURKHO_NONE) != shown) {
+        fail("another count");
+    }
+    nones_of |= (shown == TSENDURKHO_NONE) << f;
+    counts_of |= (shown > 255 && shown < c) << f;
+}
+
+static void try_record(void)
+{
+    uint32_t f, c, words, beats, shown;
+    Bytes record;
+    int numbers = scanf("%u %u %u %u", &f, &c, &words, &beats);
+    read_bytes(&record);
+    numbers += scanf("%u", &shown);
+    if (numbers != 5 || f > TSENDURKHO_MOST_BROKEN) {
+        fail("this is no record");
+    }
+    if (TSENDURKHO_RECORD_WORDS(f) != words || TSENDURKHO_RECORD_BYTES(f) != record.count) {
+        fail("another size of a record");
+    }
+    if (TSENDURKHO_SETTLE_BEATS(f) != beats) {
+        fail("another T(f)");
+    }
+    try_count(f, c, record.bytes, shown);
+}
+
+/* What the compiler took for sizes and constants. */
+static void try_constants(void)
+{
+    static const size_t bytes[6] = {2, 18, 34, 34, 50, 50};
+    static const RecordOfEach any;
+    const size_t sizes[6] = {sizeof any.of_0, sizeof any.of_1, sizeof any.of_2,
+                             sizeof any.of_3, sizeof any.of_4, sizeof any.of_5};
+    if (memcmp(sizes, bytes, sizeof sizes) != 0 || COUNT_OF_NONE_BROKEN != 0 || COUNT_OF_ANY_BROKEN != 6) {
+        fail("another constant");
+    }
+}
+
+/* An f or an n is refused from the one after the largest on. */
+static void try_limits(void)
+{
+    uint32_t n = TSENDURKHO_MOST_CARDS, f = TSENDURKHO_MOST_BROKEN;
+    if (tsendurkho_step(n, f, 2, 0, NULL, 0, NULL, 0) != TSENDURKHO_BAD_RECORDS ||
+        tsendurkho_step(n, f + 1, 2, 0, NULL, 0, NULL, 0) != TSENDURKHO_BAD_BROKEN ||
+        tsendurkho_step(n + 1, f, 2, 0, NULL, 0, NULL, 0) != TSENDURKHO_BAD_CARDS) {
+        fail("another largest n or f");
+    }
+}
+
 int main(void)
 {
-    char kind[5];
+    char kind[7];
     Call call;
 
     open_room(&records_room);
     open_room(&out_room);
-    while (scanf("%4s", kind) == 1) {
+    try_constants();
+    try_limits();
+    while (scanf("%6s", kind) == 1) {
         lines++;
         if (strcmp(kind, "lag") == 0) {
             try_lag();
+        } else if (strcmp(kind, "record") == 0) {
+            try_record();
         } else {
             read_step(&call);
             try_step(&call);
@@ -229,6 +304,9 @@ int main(void)
     }
     if (step_answers != STEP_ANSWERS || lag_answers != LAG_ANSWERS) {
         fail("an answer was never looked for");
+    }
+    if (nones_of != EACH_F || counts_of != EACH_F) {
+        fail("a kind of record was never looked at");
     }
     printf("boundary: %ld calls\n", calls);
     return 0;

@@ -1,5 +1,5 @@
 // The run program: standard input to standard output, a piece at a time, with fixed buffers. A failed read is the end of
-// the input, and a failed write the end of the output; either is told on standard error.
+// the input, and a failed write the end of the output; either is reported on standard error, and so is a refused line.
 ghost use Rattle.io.specs.Counts.{Counts};
 ghost use Rattle.feed.specs.Calls.{FeedsAll, Reached};
 use feed::Feed;
@@ -24,11 +24,26 @@ fn get(piece: &mut [u8]) -> usize
     io::count(got, piece)
 }
 
+// Does an f stand there?
+fn is_f(text: &[u8], at: usize) -> bool {
+    at < text.len() && text[at] == b'f'
+}
+
+// Is this output line a refusal? It begins with ffff, and no other line does, since beats end at fffe.
+fn is_refusal(text: &[u8]) -> bool {
+    is_f(text, 0) && is_f(text, 1) && is_f(text, 2) && is_f(text, 3)
+}
+
 // Writes some output, and answers whether all of it and all before it was written. After a line that could not be written
-// nothing more is: another line behind a part of it would be read as one line with wrong counts.
+// nothing more is: another line behind a part of it would be read as one line with wrong counts. A refusal is reported on
+// standard error too, for whoever started the program to see it there.
 fn put(before: bool, text: &[u8]) -> bool {
     if !before {
         return false;
+    }
+    if is_refusal(text) {
+        io::write_all(STDERR_FILENO, b"blockrun: refused ");
+        io::write_all(STDERR_FILENO, text);
     }
     let whole = io::write_all(STDOUT_FILENO, text);
     if !whole {
@@ -43,7 +58,8 @@ fn put(before: bool, text: &[u8]) -> bool {
 // Feeds a piece line by line, and writes each output line as it is known. All of the piece is fed, written or not, so that
 // the contract says for every piece where the run stands after it.
 fn run_piece(before: Feed, piece: &[u8], line: &mut [u8; 8005], table: &mut [u16; 400]) -> Ran
-    ensures { λ r. ⌜ FeedsAll before (now (piece .entry)) (now (line .entry)) (now (table .entry)) (r .feed) (now (line .exit)) (now (table .exit)) ⌝ }
+    ensures { λ r. ⌜ FeedsAll before (now (piece .entry)) (now (line .entry)) (now (table .entry))
+        (r .feed) (now (line .exit)) (now (table .exit)) ⌝ }
 {
     let mut state = before;
     let mut whole = true;

@@ -13,7 +13,8 @@ use Rattle.rules.specs.Counting.{countBelow, same}
 use Rattle.rules.specs.Groups.{readVote}
 use Rattle.rules.specs.OneBeat.{sentBy, enough, vote, supported}
 use Rattle.rules.proofs.Tests.{decided, never, le-or-lt, lt-or-le}
-use Rattle.rules.proofs.Counting.{count-yes, count-no, count-same, count-not, count-le, count-some, count-split, count-apart, least-at, least-none}
+use Rattle.rules.proofs.Counting.{count-yes, count-no, count-same, count-not, count-le, count-some, count-split, count-apart}
+use Rattle.rules.proofs.Counting.{least-at, least-none}
 use Rattle.rules.proofs.Votes.{count-none, same-true, same-eq, read-below, read-above, read-is}
 use Rattle.columns.specs.Columns.{lies}
 
@@ -29,8 +30,11 @@ unfolding same
 reads-x m word x l = ⊎-elim
     (λ (w : word < x). rw (lt-leb x word w, read-below m word (omega arith), ne-eqb word x (λ e. omega arith)))
     (λ (w : x ≤ word). ⊎-elim
-    (λ (v : word ≤ x). rw (le-leb x word w, lt-ltb word (x + 1) (omega arith), read-below m word (omega arith), eq-eqb word x (omega arith)))
-    (λ (v : x < word). rw (le-leb x word w, le-ltb word (x + 1) (omega arith)) (sym (not-same (readVote m word) x (λ e. let r = read-is m word x e in omega (arith, r .0)))))
+    (λ (v : word ≤ x).
+    rw (le-leb x word w, lt-ltb word (x + 1) (omega arith), read-below m word (omega arith), eq-eqb word x (omega arith)))
+    (λ (v : x < word).
+    rw (le-leb x word w, le-ltb word (x + 1) (omega arith))
+    (sym (not-same (readVote m word) x (λ e. let r = read-is m word x e in omega (arith, r .0)))))
     (le-or-lt word x))
     (lt-or-le word x)
 
@@ -149,12 +153,14 @@ sent-apart heard n x y ne =
     (λ v p q. let z : x ≡ y = cc (same-true (heard v) (Count x) p, same-true (heard v) (Count y) q) in ne z)
 
 -- a value that n-f of the cards gone through sent is the vote: no other is
-pub vote-found : (heard : ℕ → Vote) (n f m u x : ℕ) → 3 * f < n → x < m → u ≤ n → n ≤ sentBy u heard (Count x) + f → vote n f m heard ≡ Count x
+pub vote-found : (heard : ℕ → Vote) (n f m u x : ℕ) → 3 * f < n → x < m → u ≤ n → n ≤ sentBy u heard (Count x) + f
+    → vote n f m heard ≡ Count x
 unfolding vote enough
 vote-found heard n f m u x few l lu q =
     least-at m (λ (j : ℕ). leb n (sentBy n heard (Count j) + f)) x l
     (le-leb n (sentBy n heard (Count x) + f) (omega (arith, sent-grows heard u n (Count x) lu)))
-    (λ j lj. lt-leb n (sentBy n heard (Count j) + f) (omega (arith, sent-grows heard u n (Count x) lu, sent-apart heard n x j (omega arith))))
+    (λ j lj. lt-leb n (sentBy n heard (Count j) + f)
+    (omega (arith, sent-grows heard u n (Count x) lu, sent-apart heard n x j (omega arith))))
 
 pub vote-none : (heard : ℕ → Vote) (n f m : ℕ) → ((j : ℕ) → j < m → sentBy n heard (Count j) + f < n) → vote n f m heard ≡ None
 unfolding vote enough

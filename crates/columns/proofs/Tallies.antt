@@ -34,7 +34,8 @@ tally-more heard m t u x long e l T = record { counts = λ j lj. go j lj (eqb x 
     go : (j : ℕ) → j < m → (b : Bool) → eqb x j ≡ b → getD (set t x (getD t x 0 + 1)) j 0 ≡ sentBy (u + 1) heard (Count j)
     go j lj true q =
         let s : x ≡ j = eqb-true x j q in
-        rw (← s) (getD-set-same t x (getD t x 0 + 1) 0 (omega arith) ∙ ap (λ (k : ℕ). k + 1) (T .counts x l) ∙ sym (sent-yes heard u (Count x) e))
+        rw (← s)
+        (getD-set-same t x (getD t x 0 + 1) 0 (omega arith) ∙ ap (λ (k : ℕ). k + 1) (T .counts x l) ∙ sym (sent-yes heard u (Count x) e))
     go j lj false q =
         let ne : x ≡ j → ⊥ = eqb-false x j q in
         getD-set-other t x j (getD t x 0 + 1) 0 (λ r. ne (sym r)) ∙ T .counts j lj ∙ sym (sent-no heard u (Count j) (λ r. ne (cc (e, r))))
@@ -59,7 +60,8 @@ leads-start heard m l =
 
 pub leads-same : (heard : ℕ → Vote) (m u best : ℕ) → heard u ≡ None → Leads heard m u best → Leads heard m (u + 1) best
 leads-same heard m u best e L =
-    let same : (j : ℕ) → sentBy (u + 1) heard (Count j) ≡ sentBy u heard (Count j) = λ j. sent-no heard u (Count j) (λ r. count-none (sym r ∙ e)) in
+    let same : (j : ℕ) → sentBy (u + 1) heard (Count j) ≡ sentBy u heard (Count j) =
+    λ j. sent-no heard u (Count j) (λ r. count-none (sym r ∙ e)) in
     record {
       below = L .below;
       most = λ j lj. omega (arith, same j, same best, L .most j lj);

@@ -14,6 +14,18 @@ pub record Within (size : ℕ) (col : Column) : Type 0 where
   pub place : col .at < col .w
   pub few : col .n < 256
 
+-- what `most_frequent` asks: some value lies below m, and a tally has room for all of them
+pub record MostFrequentAsks (size : ℕ) (col : Column) (m : ℕ) : Type 0 where
+  pub within : Within size col
+  pub some : 0 < m
+  pub room : m ≤ 128
+
+-- what `vote_of` asks: no second value can have enough votes, and a tally has room
+pub record VoteAsks (size : ℕ) (col : Column) (f m : ℕ) : Type 0 where
+  pub within : Within size col
+  pub few : 3 * f < col .n
+  pub room : m ≤ 128
+
 abbrev pub wordIn : List ℕ → Column → ℕ → ℕ
 wordIn recs col u = heardIn (col .w) recs (col .first + u) (col .at)
 

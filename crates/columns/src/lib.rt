@@ -7,7 +7,7 @@ ghost use lib.ListN.{length};
 ghost use Rattle.rules.specs.Counting.{countBelow};
 ghost use Rattle.rules.specs.Groups.{readVote, wordOf};
 ghost use Rattle.rules.specs.OneBeat.{enough, sentBy, mostFrequent, vote, supported};
-ghost use Rattle.columns.specs.Columns.{Within, wordIn, votesIn, lies, leader};
+ghost use Rattle.columns.specs.Columns.{Within, MostFrequentAsks, VoteAsks, wordIn, votesIn, lies, leader};
 
 // The word `at` of each of n cards, from the card `first` on, in a table of `cards` records of w words.
 pub struct Column {
@@ -31,7 +31,7 @@ pub fn said(recs: &[u16], col: Column, u: usize) -> u16
     recs[row * w + col.at]
 }
 
-// "a output or M at or above its modulus is none"
+// RULES 4.2: "An output a, or an M, at or above its modulus is none."
 pub fn read_vote(m: u32, word: u16) -> Vote
     ensures { λ r. ⌜ r ≡ readVote m word ⌝ }
 {
@@ -129,9 +129,9 @@ fn lead(best: usize, most: u8, x: usize, t: u8) -> usize
     if x < best { x } else { best }
 }
 
-// "the most frequent output", with a tally as long as the modulus.
+// RULES 5.2: "the most frequent output among the cards of half i", with a tally as long as the modulus.
 pub fn most_frequent(recs: &[u16], col: Column, m: usize) -> u16
-    requires { ⌜ (Within (length (now recs)) col) × (0 < m) × (m ≤ 128) ⌝ }
+    requires { ⌜ MostFrequentAsks (length (now recs)) col m ⌝ }
     ensures { λ r. ⌜ r ≡ mostFrequent m (col .n) (votesIn m (now (recs .entry)) col) ⌝ }
 {
     let n = col.n;
@@ -148,9 +148,9 @@ pub fn most_frequent(recs: &[u16], col: Column, m: usize) -> u16
     best as u16
 }
 
-// "the value of mi sent by at least n-f cards of the group, else none"
+// RULES 5.3: "the value of mi that at least n-f cards of the group sent, else none"
 pub fn vote_of(recs: &[u16], col: Column, f: usize, m: usize) -> Vote
-    requires { ⌜ (Within (length (now recs)) col) × (3 * f < col .n) × (m ≤ 128) ⌝ }
+    requires { ⌜ VoteAsks (length (now recs)) col f m ⌝ }
     ensures { λ r. ⌜ r ≡ vote (col .n) f m (votesIn m (now (recs .entry)) col) ⌝ }
 {
     let n = col.n;
@@ -169,7 +169,7 @@ pub fn vote_of(recs: &[u16], col: Column, f: usize, m: usize) -> Vote
     Vote::None
 }
 
-// "the smallest count heard more than f times, or none"
+// RULES 5.6: "the smallest count heard more than f times, or none if there is no such count"
 pub fn smallest_supported(recs: &[u16], col: Column, f: usize, c: u32) -> Vote
     requires { ⌜ (Within (length (now recs)) col) × (c ≤ 65535) ⌝ }
     ensures { λ r. ⌜ r ≡ supported (col .n) f c (votesIn c (now (recs .entry)) col) ⌝ }

@@ -14,9 +14,10 @@ use Rattle.level.specs.declared.Level.{Level}
 use Rattle.level.specs.Groups.{Fits, Split, heardBy, halfGroup}
 use Rattle.level.specs.Levels.{levelAfter, wordsOf}
 use Rattle.level.proofs.Places.{half-fits, half-heard}
-use Rattle.groups.specs.Halves.{halfNext}
+use Rattle.groups.specs.Steps.{WritesGroup, WritesHalf}
 
-sets-eight : (out : List ℕ) (base : ℕ) (l : Level) (rest : List ℕ) → sets out base (wordsOf l ++ rest) ≡ sets (sets out base (wordsOf l)) (base + 8) rest
+sets-eight : (out : List ℕ) (base : ℕ) (l : Level) (rest : List ℕ)
+    → sets out base (wordsOf l ++ rest) ≡ sets (sets out base (wordsOf l)) (base + 8) rest
 sets-eight out base l rest =
     let e : suc (suc (suc (suc (suc (suc (suc (suc base))))))) ≡ base + 8 = omega arith in
     rw e
@@ -34,8 +35,8 @@ ownHalf k n f hear card =
     groupNext k (halfCards (halfOf n card) n) (halfBroken (halfOf n card) f) (halfModulus (halfOf n card) f)
     (heardInHalf (halfOf n card) n hear) (card - halfFirst (halfOf n card) n)
 
-pub node-is : (n f c : ℕ) (hear : ℕ → ℕ → ℕ) (card base : ℕ) (out now last : List ℕ) (l : Level) → 1 ≤ f → l ≡ levelAfter n f c hear card
-    → now ≡ sets out base (wordsOf l)
+pub node-is : (n f c : ℕ) (hear : ℕ → ℕ → ℕ) (card base : ℕ) (out now last : List ℕ) (l : Level) → 1 ≤ f
+    → l ≡ levelAfter n f c hear card → now ≡ sets out base (wordsOf l)
     → ((k : ℕ) → f ≤ k → last ≡ sets now (base + 8) (ownHalf k n f hear card))
     → (k : ℕ) → f < k → last ≡ sets out base (groupNext k n f c hear card)
 unfolding groupNext levelNext levelAfter
@@ -45,20 +46,31 @@ node-is n (suc f) c hear card base out now last l some el eo half (suc k) h =
     half k (omega arith)
     ∙ rw (eo, el) (sym (sets-eight out base (levelAfter n (suc f) c hear card) (ownHalf k n (suc f) hear card)))
 
--- a half fits where its group does, and its f is less by more than half
-pub half-smaller : {size : ℕ} (g h : Group) (i : ℕ) → Split size g → i < 2 → h ≡ halfGroup i g
-    → (h .f + h .f + 1 < g .f + g .f) × (Fits size h) × (h .base + recordWords (h .f) ≤ g .base + recordWords (g .f)) × (h .n ≡ halfCards i (g .n)) × (h .f ≡ halfBroken i (g .f))
-half-smaller g h i s l e =
+-- half i of a group: its f is less by more than half, it fits where the group does, and its words lie within the group's
+pub record Smaller (size : ℕ) (g h : Group) (i : ℕ) : Type 0 where
+  pub falls : h .f + h .f + 1 < g .f + g .f
+  pub fits : Fits size h
+  pub words : h .base + recordWords (h .f) ≤ g .base + recordWords (g .f)
+  pub cards : h .n ≡ halfCards i (g .n)
+  pub broken : h .f ≡ halfBroken i (g .f)
+
+pub half-smaller : {size : ℕ} {g h : Group} (i : ℕ) → Split size g → i < 2 → h ≡ halfGroup i g → Smaller size g h i
+half-smaller {g = g} i s l e =
     rw e
-    (omega (arith, half-broken i (g .f) l, s .some), half-fits s i l, omega (arith, half-words i (g .f) l (s .some)), refl, refl)
+    (record {
+      falls = omega (arith, half-broken i (g .f) l, s .some);
+      fits = half-fits s i l;
+      words = omega (arith, half-words i (g .f) l (s .some));
+      cards = refl;
+      broken = refl;
+    })
 
 -- what a half writes as a group is what its group's card has of it
-pub half-is : {size : ℕ} (recs : List ℕ) (g h : Group) (i card own : ℕ) (out last : List ℕ) → Split size g → i < 2 → h ≡ halfGroup i g
-    → halfOf (g .n) card ≡ i → own ≡ card - halfFirst i (g .n)
-    → ((k : ℕ) → h .f < k → last ≡ sets out (h .base) (groupNext k (h .n) (h .f) (h .c) (heardBy recs h) own))
-    → (k : ℕ) → g .f ≤ k → last ≡ sets out (g .base + 8) (halfNext k recs g card)
-half-is recs g h i card own out last s l eh ei eo written k m =
-    written k (omega (arith, half-smaller g h i s l eh .0))
+pub half-is : {size : ℕ} {g h : Group} (recs : List ℕ) (i card own : ℕ) (out last : List ℕ) → Split size g → i < 2
+    → h ≡ halfGroup i g → halfOf (g .n) card ≡ i → own ≡ card - halfFirst i (g .n)
+    → WritesGroup recs h own out last → WritesHalf recs g card out last
+half-is {g = g} recs i card own out last s l eh ei eo written k m =
+    let half = groupNext k (halfCards i (g .n)) (halfBroken i (g .f)) (halfModulus i (g .f)) in
+    written k (omega (arith, half-smaller i s l eh .falls))
     ∙ rw (eh, ei, eo)
-    (ap (λ (hear : ℕ → ℕ → ℕ). sets out (g .base + 8) (groupNext k (halfCards i (g .n)) (halfBroken i (g .f)) (halfModulus i (g .f)) hear (card - halfFirst i (g .n))))
-    (half-heard recs g i))
+    (ap (λ (hear : ℕ → ℕ → ℕ). sets out (g .base + 8) (half hear (card - halfFirst i (g .n)))) (half-heard recs g i))

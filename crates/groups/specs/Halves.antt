@@ -9,7 +9,8 @@ use Rattle.level.specs.Groups.{heardBy}
 -- the next words of half i of a group, for a card of the group
 abbrev pub halfWords : ℕ → ℕ → List ℕ → Group → ℕ → List ℕ
 halfWords i k recs g card =
-    groupNext k (halfCards i (g .n)) (halfBroken i (g .f)) (halfModulus i (g .f)) (heardInHalf i (g .n) (heardBy recs g)) (card - halfFirst i (g .n))
+    groupNext k (halfCards i (g .n)) (halfBroken i (g .f)) (halfModulus i (g .f))
+    (heardInHalf i (g .n) (heardBy recs g)) (card - halfFirst i (g .n))
 
 abbrev pub halfNext : ℕ → List ℕ → Group → ℕ → List ℕ
 halfNext k recs g card = halfWords (halfOf (g .n) card) k recs g card

@@ -4,18 +4,16 @@ use level::group::Group;
 use params::Row;
 use steps::pointer;
 ghost use mathlib.Core.Path.{_≡_};
-ghost use Prim.Native.Nat.{ℕ, _+_, _<_, _≤_};
+ghost use Prim.Native.Nat.{ℕ, _+_, _≤_};
 ghost use lib.ListN.{length};
-ghost use lib.Seq.{sets};
 ghost use Rattle.rules.specs.Parameters.{recordWords};
-ghost use Rattle.rules.specs.OneBeat.{leafNext, groupNext};
-ghost use Rattle.params.specs.Answers.{rowRead};
-ghost use Rattle.level.specs.Groups.{Fits, Split, heardBy};
-ghost use Rattle.groups.specs.Halves.{halfNext};
+ghost use Rattle.rules.specs.OneBeat.{leafNext};
+ghost use Rattle.level.specs.Groups.{Fits, heardBy, LevelAsks};
+ghost use Rattle.groups.specs.Steps.{LeafAsks, SplitAsks, GroupAsks, WritesGroup, WritesHalf};
 
-// "Group with f = 0: a becomes the first member's a plus 1, modulo c."
+// RULES 5.1: "a becomes the first member's a plus 1, modulo c."
 fn leaf_word(recs: &[u16], g: Group) -> u16
-    requires { ⌜ (Fits (length (now recs)) g) ⌝ }
+    requires { ⌜ Fits (length (now recs)) g ⌝ }
     ensures { λ r. ⌜ r ≡ leafNext (g .c) (heardBy (now (recs .entry)) g) ⌝ }
 {
     let word = columns::said(recs, group::column(g, 0), 0);
@@ -25,8 +23,8 @@ fn leaf_word(recs: &[u16], g: Group) -> u16
 
 // The one word of a group with f = 0, written at its base.
 fn step_leaf(recs: &[u16], g: Group, out: &mut [u16])
-    requires { ⌜ (Fits (length (now recs)) g) × (g .f ≡ 0) × (g .base < length (now out)) ⌝ }
-    ensures { λ _. ⌜ ((card k : ℕ) → g .f < k → now (out .exit) ≡ sets (now (out .entry)) (g .base) (groupNext k (g .n) (g .f) (g .c) (heardBy (now (recs .entry)) g) card)) ⌝ }
+    requires { ⌜ LeafAsks (length (now recs)) (length (now out)) g ⌝ }
+    ensures { λ _. ⌜ ((card : ℕ) → WritesGroup (now (recs .entry)) g card (now (out .entry)) (now (out .exit))) ⌝ }
 {
     let base = g.base;
     out[base] = leaf_word(recs, g);
@@ -34,19 +32,19 @@ fn step_leaf(recs: &[u16], g: Group, out: &mut [u16])
 
 // A split group's next words, written from its base on.
 fn step_split(recs: &[u16], g: Group, card: usize, out: &mut [u16])
-    requires { ⌜ (Split (length (now recs)) g) × (card < g .n) × (g .base + recordWords (g .f) ≤ length (now out)) ⌝ }
-    ensures { λ _. ⌜ ((k : ℕ) → g .f < k → now (out .exit) ≡ sets (now (out .entry)) (g .base) (groupNext k (g .n) (g .f) (g .c) (heardBy (now (recs .entry)) g) card)) ⌝ }
+    requires { ⌜ SplitAsks (length (now recs)) (length (now out)) g card ⌝ }
+    ensures { λ _. ⌜ WritesGroup (now (recs .entry)) g card (now (out .entry)) (now (out .exit)) ⌝ }
 {
     let row = params::row_of(g.f);
     level::put_level(out, g.base, level::next_level(recs, g, card, row));
     step_half(recs, g, card, row, out);
 }
 
-// "The card's own half also steps, as a group, on the records of that half."
+// RULES 5.7: "The card's own half also steps, as a group, on the records of that half."
 // Half 0 has f = 0 where its group has 2 or less, half 1 where it has 1.
 fn step_half(recs: &[u16], g: Group, card: usize, row: Row, out: &mut [u16])
-    requires { ⌜ (Split (length (now recs)) g) × (card < g .n) × (row ≡ rowRead (g .f)) × (g .base + recordWords (g .f) ≤ length (now out)) ⌝ }
-    ensures { λ _. ⌜ ((k : ℕ) → g .f ≤ k → now (out .exit) ≡ sets (now (out .entry)) (g .base + 8) (halfNext k (now (recs .entry)) g card)) ⌝ }
+    requires { ⌜ (LevelAsks (length (now recs)) g card row) × (g .base + recordWords (g .f) ≤ length (now out)) ⌝ }
+    ensures { λ _. ⌜ WritesHalf (now (recs .entry)) g card (now (out .entry)) (now (out .exit)) ⌝ }
 {
     let half = g.n / 2;
     if card < half {
@@ -66,8 +64,8 @@ fn step_half(recs: &[u16], g: Group, card: usize, row: Row, out: &mut [u16])
 
 // A group's next words, written from its base on.
 pub fn step_group(recs: &[u16], g: Group, card: usize, out: &mut [u16])
-    requires { ⌜ (Fits (length (now recs)) g) × (card < g .n) × (g .base + recordWords (g .f) ≤ length (now out)) ⌝ }
-    ensures { λ _. ⌜ ((k : ℕ) → g .f < k → now (out .exit) ≡ sets (now (out .entry)) (g .base) (groupNext k (g .n) (g .f) (g .c) (heardBy (now (recs .entry)) g) card)) ⌝ }
+    requires { ⌜ GroupAsks (length (now recs)) (length (now out)) g card ⌝ }
+    ensures { λ _. ⌜ WritesGroup (now (recs .entry)) g card (now (out .entry)) (now (out .exit)) ⌝ }
 {
     if g.f == 0 {
         step_leaf(recs, g, out);

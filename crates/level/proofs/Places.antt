@@ -69,5 +69,7 @@ pub half-common : (recs : List ℕ) (g h : Group) (i : ℕ) → h ≡ halfGroup 
 unfolding nextM
 half-common recs g h i e =
     rw e
-    (ap (λ (hear : ℕ → ℕ → ℕ). mostFrequent (halfModulus i (g .f)) (halfCards i (g .n)) (λ (u : ℕ). outputOf (halfBroken i (g .f)) (halfModulus i (g .f)) (hear u)))
+    (ap
+    (λ (hear : ℕ → ℕ → ℕ).
+    mostFrequent (halfModulus i (g .f)) (halfCards i (g .n)) (λ (u : ℕ). outputOf (halfBroken i (g .f)) (halfModulus i (g .f)) (hear u)))
     (half-heard recs g i))

@@ -1,8 +1,11 @@
 -- A group's place in a table of records, and what is heard there.
+use mathlib.Core.Path.{_≡_}
 use mathlib.Core.List.{List}
 use Prim.Native.Nat.{ℕ, _+_, _*_, _≤_, _<_}
 use Rattle.rules.specs.Parameters.{mostBroken, mostModulus, recordWords}
 use Rattle.rules.specs.Groups.{heardFrom, heardIn, halfCards, halfFirst, halfBroken, halfModulus, outputPlace}
+use Rattle.params.specs.declared.Row.{Row}
+use Rattle.params.specs.Answers.{rowRead}
 use Rattle.columns.specs.declared.Column.{Column}
 use Rattle.level.specs.declared.group.Group.{Group}
 
@@ -47,3 +50,27 @@ pub record Fits (size : ℕ) (g : Group) : Type 0 where
 pub record Split (size : ℕ) (g : Group) : Type 0 where
   pub fits : Fits size g
   pub some : 1 ≤ g .f
+
+-- what the routines ask that make half i of a group with the modulus m
+pub record HalfAsks (i : ℕ) (g : Group) (m : ℕ) : Type 0 where
+  pub some : 1 ≤ g .f
+  pub narrow : g .base < 256
+  pub modulus : m ≡ halfModulus i (g .f)
+
+-- what is asked where a card's word j of a split group is read
+pub record WordAsks (size : ℕ) (g : Group) (card j : ℕ) : Type 0 where
+  pub split : Split size g
+  pub member : card < g .n
+  pub place : j < 8
+
+-- what is asked where a card's level is read or computed: a card of a split group, and the row of the table for its f
+pub record LevelAsks (size : ℕ) (g : Group) (card : ℕ) (row : Row) : Type 0 where
+  pub split : Split size g
+  pub member : card < g .n
+  pub row-is : row ≡ rowRead (g .f)
+
+-- what `next_vote` asks: a half of a split group, and its modulus
+pub record NextVoteAsks (size : ℕ) (g : Group) (half m : ℕ) : Type 0 where
+  pub split : Split size g
+  pub a-half : half < 2
+  pub modulus : m ≡ halfModulus half (g .f)

@@ -1,8 +1,8 @@
 use columns::Column;
 ghost use mathlib.Core.Path.{_≡_};
 ghost use Prim.Native.Nat.{ℕ, _+_, _*_, _<_, _≤_};
-ghost use Rattle.rules.specs.Groups.{halfModulus, outputPlace};
-ghost use Rattle.level.specs.Groups.{columnOf, halfGroup};
+ghost use Rattle.rules.specs.Groups.{outputPlace};
+ghost use Rattle.level.specs.Groups.{columnOf, halfGroup, HalfAsks};
 
 // A group of n cards in a table of `cards` records of w words: the cards from `first` on, and their words from `base` on.
 pub struct Group {
@@ -29,9 +29,9 @@ pub fn column(g: Group, j: usize) -> Column
     }
 }
 
-// Half 0: "the first n/2 cards (rounded down) with f0 = (f-1)/2 rounded down and modulus c0".
+// RULES 3, half 0: "the first n/2" cards, "f0 = (f-1)/2", and the modulus c0.
 pub fn half_zero(g: Group, c0: u16) -> Group
-    requires { ⌜ (1 ≤ g .f) × (g .base < 256) × (c0 ≡ halfModulus 0 (g .f)) ⌝ }
+    requires { ⌜ HalfAsks 0 g c0 ⌝ }
     ensures { λ r. ⌜ r ≡ halfGroup 0 g ⌝ }
 {
     Group {
@@ -45,9 +45,9 @@ pub fn half_zero(g: Group, c0: u16) -> Group
     }
 }
 
-// Half 1: "the rest with f1 = (f-1)/2 rounded up and modulus c1".
+// RULES 3, half 1: "the rest", "f1 = (f-1)/2, rounded up", and the modulus c1.
 pub fn half_one(g: Group, c1: u16) -> Group
-    requires { ⌜ (1 ≤ g .f) × (g .base < 256) × (g .first + g .n < 256) × (c1 ≡ halfModulus 1 (g .f)) ⌝ }
+    requires { ⌜ (HalfAsks 1 g c1) × (g .first + g .n < 256) ⌝ }
     ensures { λ r. ⌜ r ≡ halfGroup 1 g ⌝ }
 {
     Group {

@@ -8,15 +8,14 @@ ghost use mathlib.Core.Path.{_≡_};
 ghost use Prim.Native.Nat.{ℕ, _+_, _<_, _≤_, min};
 ghost use lib.ListN.{length};
 ghost use lib.Seq.{sets};
-ghost use Rattle.rules.specs.Parameters.{turn};
-ghost use Rattle.rules.specs.Groups.{halfModulus, halfOf, outputOf, bitOf};
+ghost use Rattle.rules.specs.Groups.{halfOf, outputOf, bitOf};
 ghost use Rattle.rules.specs.OneBeat.{mostFrequent, cooldown, trusted, phase, nextVote, nextStanding};
-ghost use Rattle.params.specs.Answers.{rowRead};
-ghost use Rattle.level.specs.Groups.{Fits, Split, heardBy};
 ghost use Rattle.steps.specs.Standings.{standing};
+ghost use Rattle.steps.specs.Pointers.{TurnOf};
+ghost use Rattle.level.specs.Groups.{Fits, heardBy, WordAsks, LevelAsks, NextVoteAsks};
 ghost use Rattle.level.specs.Levels.{levelRead, levelAfter, votedZero, votedOne, wordsOf};
 
-// What a card keeps of a split group: m0 m1 M0 M1 w0 w1 a b, as document 01 reads them.
+// What a card keeps of a split group, m0 m1 M0 M1 w0 w1 a b, as RULES 4.2 reads the words.
 pub struct Level {
     pub m0: u16,
     pub m1: u16,
@@ -28,7 +27,7 @@ pub struct Level {
     pub b: bool,
 }
 
-// "wi less 1, not below 0. Otherwise 2·c1"
+// RULES 5.4: "then wi becomes 1 less, but not below 0. Otherwise wi becomes 2·c1."
 fn wait_after(old: Vote, new: Vote, m: u16, wait: u16, restart: u16) -> u16
     requires { ⌜ 0 < m ⌝ }
     ensures { λ r. ⌜ r ≡ cooldown m restart old new wait ⌝ }
@@ -89,7 +88,7 @@ impl Level {
     }
 }
 
-// "w above 2·c1 is 2·c1"
+// RULES 4.2: "A w above 2·c1 is 2·c1."
 fn at_most(word: u16, most: u16) -> u16
     ensures { λ r. ⌜ r ≡ min word most ⌝ }
 {
@@ -98,7 +97,7 @@ fn at_most(word: u16, most: u16) -> u16
 
 // The word j of a card of the group.
 fn word_at(recs: &[u16], g: Group, card: usize, j: usize) -> u16
-    requires { ⌜ (Split (length (now recs)) g) × (card < g .n) × (j < 8) ⌝ }
+    requires { ⌜ WordAsks (length (now recs)) g card j ⌝ }
     ensures { λ r. ⌜ r ≡ heardBy (now (recs .entry)) g card j ⌝ }
 {
     columns::said(recs, group::column(g, j), card)
@@ -106,7 +105,7 @@ fn word_at(recs: &[u16], g: Group, card: usize, j: usize) -> u16
 
 // The level that a card of the group keeps, from its eight words.
 fn read_level(recs: &[u16], g: Group, card: usize, row: Row) -> Level
-    requires { ⌜ (Split (length (now recs)) g) × (card < g .n) × (row ≡ rowRead (g .f)) ⌝ }
+    requires { ⌜ LevelAsks (length (now recs)) g card row ⌝ }
     ensures { λ r. ⌜ r ≡ levelRead (g .f) (g .c) (heardBy (now (recs .entry)) g card) ⌝ }
 {
     Level {
@@ -124,8 +123,9 @@ fn read_level(recs: &[u16], g: Group, card: usize, row: Row) -> Level
 impl Level {
     // d, for a card of the group that keeps this level.
     fn phase(self, g: Group, card: usize, row: Row) -> u16
-        requires { ⌜ (row .turn ≡ turn (g .f)) × (row .turn < 1024) ⌝ }
-        ensures { λ r. ⌜ r ≡ phase (halfOf (g .n) card) (g .f) (trusted (self .wait0) (self .vote0)) (trusted (self .wait1) (self .vote1)) ⌝ }
+        requires { ⌜ TurnOf (g .f) (row .turn) ⌝ }
+        ensures { λ r. ⌜ r ≡ phase (halfOf (g .n) card) (g .f)
+            (trusted (self .wait0) (self .vote0)) (trusted (self .wait1) (self .vote1)) ⌝ }
     {
         let vote0 = self.vote0;
         let vote1 = self.vote1;
@@ -136,7 +136,7 @@ impl Level {
     }
 }
 
-// mi, of the half g: "the most frequent output among the cards of half i"
+// mi, for one half. RULES 5.2: "the most frequent output among the cards of half i"
 fn common_output(recs: &[u16], half: Group) -> u16
     requires { ⌜ (Fits (length (now recs)) half) × (half .c ≤ 128) ⌝ }
     ensures { λ r. ⌜ r ≡ mostFrequent (half .c) (half .n) (λ (u : ℕ). outputOf (half .f) (half .c) (heardBy (now (recs .entry)) half u)) ⌝ }
@@ -147,7 +147,7 @@ fn common_output(recs: &[u16], half: Group) -> u16
 
 // Mi, by the m that the cards sent.
 fn next_vote(recs: &[u16], g: Group, half: usize, m: u16) -> Vote
-    requires { ⌜ (Split (length (now recs)) g) × (half < 2) × (m ≡ halfModulus half (g .f)) ⌝ }
+    requires { ⌜ NextVoteAsks (length (now recs)) g half m ⌝ }
     ensures { λ r. ⌜ r ≡ nextVote half (g .n) (g .f) (heardBy (now (recs .entry)) g) ⌝ }
 {
     columns::vote_of(recs, group::column(g, half), g.f as usize, m as usize)
@@ -155,7 +155,8 @@ fn next_vote(recs: &[u16], g: Group, half: usize, m: u16) -> Vote
 
 // a and b, by the step that the old M and w pick.
 fn next_standing(recs: &[u16], g: Group, card: usize, own: Level, row: Row) -> Standing
-    requires { ⌜ (Split (length (now recs)) g) × (card < g .n) × (row ≡ rowRead (g .f)) × (own ≡ levelRead (g .f) (g .c) (heardBy (now recs) g card)) ⌝ }
+    requires { ⌜ (LevelAsks (length (now recs)) g card row)
+        × (own ≡ levelRead (g .f) (g .c) (heardBy (now recs) g card)) ⌝ }
     ensures { λ r. ⌜ standing r ≡ nextStanding (g .n) (g .f) (g .c) (heardBy (now (recs .entry)) g) card ⌝ }
 {
     let d = own.phase(g, card, row);
@@ -171,7 +172,7 @@ fn next_standing(recs: &[u16], g: Group, card: usize, own: Level, row: Row) -> S
 
 // The level after the beat: everything on the right is from before it.
 pub fn next_level(recs: &[u16], g: Group, card: usize, row: Row) -> Level
-    requires { ⌜ (Split (length (now recs)) g) × (card < g .n) × (row ≡ rowRead (g .f)) ⌝ }
+    requires { ⌜ LevelAsks (length (now recs)) g card row ⌝ }
     ensures { λ r. ⌜ r ≡ levelAfter (g .n) (g .f) (g .c) (heardBy (now (recs .entry)) g) card ⌝ }
 {
     let own = read_level(recs, g, card, row);

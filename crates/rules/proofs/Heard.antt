@@ -11,8 +11,10 @@ use lib.Dec.{eqb}
 use borrow.Author.Tests.{le-ltb, eqb-true, eqb-false, ne-eqb}
 use Rattle.rules.specs.declared.Vote.{Vote}
 use Rattle.rules.specs.Parameters.{turn, recordWords}
-use Rattle.rules.specs.Groups.{halfCards, halfFirst, halfBroken, halfModulus, halfOf, heardInHalf, outputOf, outputPlace, ownWords, carried}
-use Rattle.rules.specs.OneBeat.{Standing, sentBy, mostSent, mostFrequent, vote, step0, supported, step1, threeSteps, phase, keptD, nextM, nextVote, nextWait, nextStanding, levelNext, leafNext, groupNext, nextRecord}
+use Rattle.rules.specs.Groups.{halfCards, halfFirst, halfBroken, halfModulus, halfOf, heardInHalf}
+use Rattle.rules.specs.Groups.{outputOf, outputPlace, ownWords, carried}
+use Rattle.rules.specs.OneBeat.{Standing, sentBy, mostSent, mostFrequent, vote, step0, supported, step1, threeSteps, phase}
+use Rattle.rules.specs.OneBeat.{keptD, nextM, nextVote, nextWait, nextStanding, levelNext, leafNext, groupNext, nextRecord}
 use Rattle.rules.proofs.Tests.{decided, le-or-lt, never}
 use Rattle.rules.proofs.Counting.{count-same}
 use Rattle.rules.proofs.Halves.{half-less, half-broken, half-few, half-inside, half-of, half-own, half-words, each-half}

@@ -44,5 +44,6 @@ line-at k text =
     ⊎-elim
     (λ (l : suc k ≤ length (linesOf text)). rw (le-leb 1 (suc k) (omega arith), le-leb (suc k) (length (linesOf text)) l, e))
     (λ (l : length (linesOf text) < suc k).
-    rw (le-leb 1 (suc k) (omega arith), lt-leb (suc k) (length (linesOf text)) l) (sym (List·getD-eq-default (linesOf text) [] (omega arith))))
+    rw (le-leb 1 (suc k) (omega arith), lt-leb (suc k) (length (linesOf text)) l)
+    (sym (List·getD-eq-default (linesOf text) [] (omega arith))))
     (le-or-lt (suc k) (length (linesOf text)))

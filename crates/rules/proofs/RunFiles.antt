@@ -10,7 +10,8 @@ use Rattle.rules.specs.Parameters.{badCards, badBroken, badModulus}
 use Rattle.rules.specs.WholeBeat.{badSet}
 use Rattle.rules.specs.Text.{wellFormed}
 use Rattle.rules.specs.Refusals.{given, counterRefusal, beatRefusal}
-use Rattle.rules.specs.RunFile.{Header, headerTests, frameDigits, beatOf, startWords, beatWords, lastBeat, startLineRefusal, beatLineRefusal}
+use Rattle.rules.specs.RunFile.{Header, headerTests, frameDigits, beatOf, startWords, beatWords, lastBeat}
+use Rattle.rules.specs.RunFile.{startLineRefusal, beatLineRefusal}
 use Rattle.rules.proofs.Tests.{and-left, and-right}
 use Rattle.rules.proofs.Shapes.{not-given}
 

@@ -65,7 +65,7 @@ read-again m word l = ⊎-elim
     (λ (h : word < m). rw (read-below m word h) (read-count noneWord word (omega arith)))
     (le-or-lt m word)
 
--- enough are "at least n-f cards", whichever test says so
+-- enough are n-f cards or more, whichever test says so
 pub enough-true : (n f cards : ℕ) → enough n f cards ≡ true → n - f ≤ cards
 unfolding enough
 enough-true n f cards e = omega (arith, leb-true, ltb-true)

@@ -1,5 +1,4 @@
--- Document 01, "Numbers to check by hand", the starred ones, and the whole case of "Run files and the run program",
--- computed.
+-- RULES 12: the starred numbers, and the whole run file, computed.
 use Prim.Native.Nat.{ℕ}
 use mathlib.Core.Path.{_≡_, refl}
 use mathlib.Core.Bool.{Bool, true, false}
@@ -11,13 +10,16 @@ use Rattle.rules.specs.declared.Vote.the-variants.{Count, None}
 use Rattle.rules.specs.Counting.{countBelow, largestBelow, least, orElse, countOr0, same, rows}
 use Rattle.rules.specs.Parameters.{c0, c1, restart, digitsIn, binaryDigits}
 use Rattle.rules.specs.Groups.{readVote, wordOf, bitOf, heardIn}
-use Rattle.rules.specs.OneBeat.{Standing, sentBy, enough, mostSent, mostFrequent, vote, follows, cooldown, span, pointer, step0, step1, step2, supported, obeyed, gained, leafNext, groupNext, padded, nextRecord, shownCount}
+use Rattle.rules.specs.OneBeat.{Standing, sentBy, enough, mostSent, mostFrequent, vote, follows, cooldown, span, pointer, step0}
+use Rattle.rules.specs.OneBeat.{step1, step2, supported, obeyed, gained, leafNext, groupNext, padded, nextRecord, shownCount}
 use Rattle.rules.specs.WholeBeat.{isBroken, brokenBelow, badSet, heardOnBeat, heldRecord, recordAfter, tableAfter}
 use Rattle.rules.specs.Lag.{nearest, lagOf}
-use Rattle.rules.specs.Text.{digitOf, isDigit, valueOf, hexOf, numberAt, allDigits, wellFormed, wordsAt, lineFeed, oneMore, inFront, linesOf}
-use Rattle.rules.specs.RunFile.{headerOf, headerRefusal, startLineRefusal, beatLineRefusal, shownWord, outputLine, refusalLine, orRefused, takeLine, atEnd, continued, runLines, runText}
+use Rattle.rules.specs.Text.{digitOf, isDigit, valueOf, hexOf, numberAt, allDigits, wellFormed, wordsAt, lineFeed, oneMore, inFront}
+use Rattle.rules.specs.Text.{linesOf}
+use Rattle.rules.specs.RunFile.{headerOf, headerRefusal, startLineRefusal, beatLineRefusal, shownWord, outputLine, refusalLine}
+use Rattle.rules.specs.RunFile.{orRefused, takeLine, atEnd, continued, runLines, runText}
 
--- what a definition gives, and what document 01 prints for it
+-- what a definition gives, and what the rules print for it
 pub record Case : Type 0 where
   pub got : ℤ
   pub printed : ℤ
@@ -40,11 +42,11 @@ aAfter s = wordOf (gained 8 (s .a))
 abbrev pub standing : Vote → Bool → Standing
 standing a b = record { a = a; b = b }
 
--- the word that stands for none, as document 01 prints it
+-- the word that stands for none, as the rules print it
 abbrev pub none : ℕ
 none = 65535
 
--- the starred cases, in document 01's order
+-- the starred cases
 pub starred : List Case
 starred =
     is (flat (2 ∷ 1 ∷ []) 0) 0
@@ -70,7 +72,8 @@ starred =
     ∷ []
 
 pub starred-hold : map (λ (k : Case). k .got) starred ≡ map (λ (k : Case). k .printed) starred
-unfolding starred countBelow largestBelow least orElse countOr0 same digitsIn binaryDigits readVote wordOf sentBy enough mostSent mostFrequent vote follows cooldown pointer step0 step1 step2 supported obeyed gained leafNext groupNext padded nextRecord nearest lagOf
+unfolding starred countBelow largestBelow least orElse countOr0 same digitsIn binaryDigits readVote wordOf sentBy enough mostSent
+    mostFrequent vote follows cooldown pointer step0 step1 step2 supported obeyed gained leafNext groupNext padded nextRecord nearest lagOf
 starred-hold = refl
 
 -- a line of a run file, by its number of digits and the number that they make
@@ -88,5 +91,8 @@ started = line 12 0x000000020001
 pub worked-run :
     (runText (opening ++ line 4 1 ++ line 4 2) ≡ started ++ line 12 0x000100000000 ++ line 12 0x000200010001)
     × (runText (opening ++ line 4 2 ++ line 4 2) ≡ started ++ line 14 0xffff000000030b)
-unfolding countBelow largestBelow least orElse countOr0 same rows digitsIn binaryDigits readVote wordOf leafNext groupNext padded nextRecord shownCount isBroken brokenBelow badSet heardOnBeat heldRecord recordAfter tableAfter digitOf isDigit valueOf hexOf numberAt allDigits wellFormed wordsAt oneMore inFront linesOf headerOf headerRefusal startLineRefusal beatLineRefusal shownWord outputLine refusalLine orRefused takeLine atEnd continued runLines runText
+unfolding countBelow largestBelow least orElse countOr0 same rows digitsIn binaryDigits readVote wordOf leafNext groupNext padded nextRecord
+    shownCount isBroken brokenBelow badSet heardOnBeat heldRecord recordAfter tableAfter digitOf isDigit valueOf hexOf numberAt allDigits
+    wellFormed wordsAt oneMore inFront linesOf headerOf headerRefusal startLineRefusal beatLineRefusal shownWord outputLine refusalLine
+    orRefused takeLine atEnd continued runLines runText
 worked-run = (refl, refl)

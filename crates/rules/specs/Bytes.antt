@@ -1,4 +1,4 @@
--- Document 01, "What the counter covers": "two bytes a word, low byte first".
+-- RULES 10.1: "a word is two bytes, the low byte first".
 use Prim.Native.Nat.{ℕ, _+_, _*_, _/_, _%_}
 use mathlib.Core.List.{List, [], _∷_}
 use lib.ListN.{length, getD}

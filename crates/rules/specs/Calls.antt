@@ -1,5 +1,5 @@
--- What each call answers, and what it leaves in the caller's buffer: "a refused call's value is 0 and the output buffer
--- keeps its contents".
+-- What each call answers, and what it leaves in the caller's buffer. RULES 9.3: "A refused call's value is 0, and the output
+-- buffer keeps its contents."
 use Prim.Native.Nat.{ℕ, zero, suc, _+_, _*_}
 use mathlib.Core.Bool.{cond}
 use mathlib.Core.List.{List}
@@ -15,7 +15,8 @@ use Rattle.rules.specs.WholeBeat.{tableAfter}
 use Rattle.rules.specs.Lag.{lagOf}
 use Rattle.rules.specs.Bytes.{wordAt, bytesOf}
 use Rattle.rules.specs.Text.{textOf, wordsAt}
-use Rattle.rules.specs.Refusals.{shapeRefusal, stepRefusal, stepBytesRefusal, beatRefusal, shownRefusal, lagRefusal, writeRefusal, readRefusal}
+use Rattle.rules.specs.Refusals.{shapeRefusal, stepRefusal, stepBytesRefusal, beatRefusal, shownRefusal, lagRefusal, writeRefusal}
+use Rattle.rules.specs.Refusals.{readRefusal}
 
 -- the one where nothing is refused, else the other
 abbrev pub unlessRefused : {A : Type 0} → ℕ → A → A → A
@@ -30,7 +31,7 @@ pub record Parameters : Type 0 where
   pub words : ℕ
   pub beats : ℕ
 
--- "For f = 0 the four middle entries are answered as 0."
+-- RULES 2.3: "With f = 0 no group is split: the four middle entries are answered as 0."
 unfoldable pub rowOf : ℕ → Parameters
 rowOf zero = record { turn = 0; c0 = 0; c1 = 0; restart = 0; words = recordWords 0; beats = settleBeats 0 }
 rowOf (suc f) =

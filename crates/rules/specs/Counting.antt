@@ -1,4 +1,4 @@
--- What document 01 takes for granted: counting cards, the smallest number that passes a test, lists by their places.
+-- What the rules take for granted: counting cards, the smallest number that passes a test, lists by their places.
 use Prim.Native.Nat.{ℕ, zero, suc, _+_, max}
 use mathlib.Core.Bool.{Bool, true, false, cond}
 use mathlib.Core.List.{List, [], _∷_, _++_}

@@ -1,4 +1,4 @@
--- Document 01, "Groups within groups": halves, what a record holds, how each word is read.
+-- RULES 3 and 4: halves, what a record holds, how each word is read.
 use Prim.Native.Nat.{ℕ, zero, suc, _+_, _*_, _-_, _/_, min}
 use mathlib.Core.Bool.{Bool, false, cond, _||_}
 use mathlib.Core.List.{List}
@@ -12,7 +12,7 @@ use Rattle.rules.specs.Parameters.{c0, c1, restart, noneWord}
 abbrev pub atHalf : {A : Type 0} → ℕ → A → A → A
 atHalf i zeroth first = cond (eqb i 0) zeroth first
 
--- "half 0 is the first n/2 cards (rounded down)", "half 1 is the rest"
+-- RULES 3: half 0 has "the first n/2" cards, half 1 "the rest"
 abbrev pub halfCards : ℕ → ℕ → ℕ
 halfCards i n = atHalf i (n / 2) (n - n / 2)
 
@@ -20,11 +20,11 @@ halfCards i n = atHalf i (n / 2) (n - n / 2)
 abbrev pub halfFirst : ℕ → ℕ → ℕ
 halfFirst i n = atHalf i 0 (n / 2)
 
--- f0 = (f-1)/2 rounded down, f1 = (f-1)/2 rounded up
+-- RULES 3: "f0 = (f-1)/2", "f1 = (f-1)/2, rounded up"
 abbrev pub halfBroken : ℕ → ℕ → ℕ
 halfBroken i f = atHalf i ((f - 1) / 2) ((f - 1 + 1) / 2)
 
--- "modulus c0", "modulus c1": "from the f of the group being split"
+-- RULES 3: "c0 and c1 come from the f of the group that is split."
 abbrev pub halfModulus : ℕ → ℕ → ℕ
 halfModulus i f = atHalf i (c0 f) (c1 f)
 
@@ -33,7 +33,8 @@ abbrev pub halfOf : ℕ → ℕ → ℕ
 halfOf n card = cond (ltb card (n / 2)) 0 1
 
 -- What is heard: the word j of the sender u. Of a half it is what is heard from the half's first card on, past the eight
--- words of the group around it ("Cards are numbered from 0 within their group", "outermost group first")
+-- words of the group around it. RULES 1: "Cards are numbered from 0 within the group that is spoken of."
+-- RULES 4.1: "the outermost group first"
 abbrev pub heardFrom : (ℕ → ℕ → ℕ) → ℕ → ℕ → ℕ → ℕ → ℕ
 heardFrom hear first base u j = hear (first + u) (base + j)
 
@@ -48,7 +49,7 @@ place w u j = u * w + j
 abbrev pub heardIn : ℕ → List ℕ → ℕ → ℕ → ℕ
 heardIn w records u j = getD records (place w u j) 0
 
--- "eight words for a split group, m0 m1 M0 M1 w0 w1 a b, and one word a for a group with f = 0"
+-- RULES 4.1: "for a split group eight words: m0 m1 M0 M1 w0 w1 a b"
 abbrev pub mPlace : ℕ → ℕ
 mPlace i = i
 
@@ -61,12 +62,12 @@ waitPlace i = 4 + i
 abbrev pub bPlace : ℕ
 bPlace = 7
 
--- "A group's output is its word a"
+-- RULES 4.1: "for a group with f = 0, which is the last one, one word: a"
 abbrev pub outputPlace : ℕ → ℕ
 outputPlace f = cond (eqb f 0) 0 6
 
--- How many words of the record the card of the group uses, outermost group first; "Words beyond are written 0 and never
--- read." f falls on each round, so that k > f rounds are enough
+-- How many words of the record the card of the group uses. RULES 4.1: "Words beyond these are written 0 and never read."
+-- f falls on each round, so that k > f rounds are enough
 unfoldable pub ownWords : ℕ → ℕ → ℕ → ℕ → ℕ
 ownWords zero n f card = 0
 ownWords (suc k) n zero card = 1
@@ -83,30 +84,30 @@ carried (suc k) n (suc f) card j =
     cond (ltb j 8) (eqb j (mPlace 0) || eqb j (mPlace 1) || eqb j (outputPlace (suc f)))
     (carried k (halfCards i n) (halfBroken i (suc f)) (card - halfFirst i n) (j - 8))
 
--- "a output or M at or above its modulus is none"; "an m at or above ci is not counted"
+-- RULES 4.2: "An output a, or an M, at or above its modulus is none."; "An m at or above ci is not counted."
 unfoldable pub readVote : ℕ → ℕ → Vote
 readVote m word = cond (ltb word m) (Count word) None
 
--- the output of a group, of a card's words from that group on
+-- the output of a group, of a card's words from that group on; RULES 4.2: "The modulus of a is the group's c"
 abbrev pub outputOf : ℕ → ℕ → (ℕ → ℕ) → Vote
 outputOf f c words = readVote c (words (outputPlace f))
 
--- mi as it was sent, Mi as it is kept
+-- mi as it was sent, Mi as it is kept; RULES 4.2: "the modulus of Mi is ci"
 abbrev pub sentM : ℕ → ℕ → (ℕ → ℕ) → Vote
 sentM i f words = readVote (halfModulus i f) (words (mPlace i))
 
 abbrev pub keptVote : ℕ → ℕ → (ℕ → ℕ) → Vote
 keptVote i f words = readVote (halfModulus i f) (words (votePlace i))
 
--- "w above 2·c1 is 2·c1"
+-- RULES 4.2: "A w above 2·c1 is 2·c1."
 abbrev pub keptWait : ℕ → ℕ → (ℕ → ℕ) → ℕ
 keptWait i f words = min (words (waitPlace i)) (restart f)
 
--- "b other than 1 is 0"
+-- RULES 4.2: "A b other than 1 is 0."
 abbrev pub keptB : (ℕ → ℕ) → Bool
 keptB words = eqb (words bPlace) 1
 
--- how a vote and a bit are written
+-- how a vote and a bit are written; RULES 1: "None means that there is no count, and is written as the word 65,535."
 unfoldable pub wordOf : Vote → ℕ
 wordOf (Count x) = x
 wordOf None = noneWord

@@ -1,4 +1,4 @@
--- Document 01, "Run files and the run program".
+-- RULES 11: run files and the run program.
 use Prim.Native.Nat.{ℕ, suc, _+_, _*_}
 use mathlib.Core.Bool.{Bool, cond, not, _&&_}
 use mathlib.Core.List.{List, [], _∷_, _++_}
@@ -18,29 +18,29 @@ pub record Header : Type 0 where
   pub c : ℕ
   pub set : ℕ
 
--- "Line 1: n (2 digits), f (2), c (4), broken set (4)."
+-- RULES 11.1: "n (2 digits), f (2 digits), c (4 digits), the broken set (4 digits)."
 abbrev pub headerDigits : ℕ
 headerDigits = 12
 
 unfoldable pub headerOf : List ℕ → Header
 headerOf line = record { n = numberAt line 0 2; f = numberAt line 2 2; c = numberAt line 4 4; set = numberAt line 8 4 }
 
--- refusals 1, 2, 3 and 7 of what line 1 says
+-- RULES 11.5: "Line 1 is then tested for 1, 2, 3 and 7."
 abbrev pub headerTests : Header → ℕ
 headerTests h = counterRefusal (h .n) (h .f) (h .c) (given 7 (badSet (h .n) (h .f) (h .set)) 0)
 
--- "On a line, 10 comes first."
+-- RULES 11.5: "On every line, 10 comes first"
 unfoldable pub headerRefusal : List ℕ → ℕ
 headerRefusal line = given 10 (not (wellFormed headerDigits line)) (headerTests (headerOf line))
 
--- "its beat", 4 digits, and then words of 4 digits
+-- RULES 11.3: "its beat (4 digits)", and then words of 4 digits
 abbrev pub frameDigits : ℕ → ℕ
 frameDigits words = 4 + 4 * words
 
 abbrev pub beatOf : List ℕ → ℕ
 beatOf line = numberAt line 0 4
 
--- "Line 2: beat 0000, then n records."
+-- RULES 11.2: "The beat 0000, then the n records that the cards start with."; RULES 11.5: "Line 2 with another beat than 0000 is 11."
 abbrev pub startWords : Header → ℕ
 startWords h = h .n * recordWords (h .f)
 
@@ -48,34 +48,35 @@ unfoldable pub startLineRefusal : Header → List ℕ → ℕ
 startLineRefusal h line =
     given 10 (not (wellFormed (frameDigits (startWords h)) line)) (given 11 (not (eqb (beatOf line) 0)) 0)
 
--- "Each later line: its beat, then the broken cards' words for that beat."
+-- RULES 11.3: "Each later line has its beat (4 digits), then the broken cards' words for that beat."
 abbrev pub beatWords : Header → ℕ
 beatWords h = sentWords (h .n) (h .f) (h .set)
 
--- "Beats run from 1 to fffe."
+-- RULES 11.3: "Beats run from 0001 to fffe."
 abbrev pub lastBeat : ℕ
 lastBeat = 65534
 
--- "beat number not the next"; "any well-formed line after beat fffe, is 11"
+-- RULES 11.5: "A later line whose beat is not the next one is 11, and so is any well-formed line after beat fffe."
 unfoldable pub beatLineRefusal : Header → ℕ → List ℕ → ℕ
 beatLineRefusal h beat line =
     given 10 (not (wellFormed (frameDigits (beatWords h)) line))
     (given 11 (not (eqb (beatOf line) (beat + 1) && leb (beatOf line) lastBeat)) 0)
 
--- "for each card in order, its shown count, ffff for none or broken"
+-- RULES 11.4: "for each card in order, its shown count (4 digits), ffff for none and for a broken card"
 unfoldable pub shownWord : Header → List ℕ → ℕ → ℕ
 shownWord h table v =
     cond (isBroken (h .set) v) noneWord (wordOf (shownCount (h .f) (h .c) (heardIn (recordWords (h .f)) table v)))
 
--- "Every output line ends with a line feed."
+-- RULES 11.4: "Every output line ends with a line feed."
 unfoldable pub outputLine : Header → ℕ → List ℕ → List ℕ
 outputLine h beat table = hexOf 4 beat ++ rows (h .n) (λ (v : ℕ). hexOf 4 (shownWord h table v)) ++ (lineFeed ∷ [])
 
--- "At the first bad line it writes ffff, the line's number from 1 (8 digits), the refusal (2 digits), and stops."
+-- RULES 11.5: "At the first bad line the run program writes ffff, the number of the line (8 digits) and the refusal (2 digits), and
+-- stops."
 unfoldable pub refusalLine : ℕ → ℕ → List ℕ
 refusalLine k refusal = hexOf 4 noneWord ++ hexOf 8 k ++ hexOf 2 refusal ++ (lineFeed ∷ [])
 
--- where a run stands between two lines
+-- where a run file stands between two lines
 pub data Stage : Type 0 where
   atHeader : Stage
   atStart : Header → Stage
@@ -99,7 +100,8 @@ takeLine (atBeat h beat table) line =
     let next = tableAfter (h .n) (h .f) (h .c) (h .set) table (wordsAt line 4 (beatWords h)) in
     orRefused (beatLineRefusal h beat line) (accepted (atBeat h (beat + 1) next) (outputLine h (beat + 1) next))
 
--- "If line 1 or 2 is missing, its number is given with 10."; "An end after line 2 is good."
+-- RULES 11.5: "If line 1 or line 2 is missing, its number is given with 10."; RULES 11.3: "The file may end after line 2 or after any
+-- later line."
 unfoldable pub atEnd : ℕ → Stage → List ℕ
 atEnd k atHeader = refusalLine k 10
 atEnd k (atStart h) = refusalLine k 10

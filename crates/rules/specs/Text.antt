@@ -1,4 +1,4 @@
--- Document 01, "Run files and the run program": digits, the text of a record, lines.
+-- RULES 10.2 and 10.3: digits, the text of a record, lines.
 use Prim.Native.Nat.{ℕ, zero, suc, _+_, _*_, _-_, _/_, _%_, _^_}
 use mathlib.Core.Bool.{Bool, true, cond, _&&_, _||_}
 use mathlib.Core.List.{List, [], _∷_, _++_}
@@ -6,11 +6,11 @@ use lib.Dec.{eqb, ltb, leb}
 use lib.ListN.{length, getD, take}
 use Rattle.rules.specs.Counting.{rows, tabulate}
 
--- the character of a digit below 16: 0-9, a-f
+-- the character of a digit below 16. RULES 10.2: "digits 0-9 and a-f, lower case, the high digit first"
 unfoldable pub digitOf : ℕ → ℕ
 digitOf x = cond (ltb x 10) (48 + x) (87 + x)
 
--- "a character outside 0-9, a-f" is none
+-- RULES 9.1, refusal 10: "a character other than 0-9 and a-f" is none
 unfoldable pub isDigit : ℕ → Bool
 isDigit ch = (leb 48 ch && leb ch 57) || (leb 97 ch && leb ch 102)
 
@@ -18,7 +18,7 @@ isDigit ch = (leb 48 ch && leb ch 57) || (leb 97 ch && leb ch 102)
 unfoldable pub valueOf : ℕ → ℕ
 valueOf ch = cond (leb ch 57) (ch - 48) (ch - 87)
 
--- a number in k digits, "lower case, high digit first"
+-- a number in k digits
 unfoldable pub hexOf : ℕ → ℕ → List ℕ
 hexOf k x = tabulate k (λ (i : ℕ). digitOf (x / 16 ^ (k - 1 - i) % 16))
 
@@ -32,11 +32,11 @@ unfoldable pub allDigits : List ℕ → Bool
 allDigits [] = true
 allDigits (ch ∷ rest) = isDigit ch && allDigits rest
 
--- not refused by 10: neither "a wrong length" nor another character
+-- not refused by 10. RULES 9.1: "a text has a wrong length or a character other than 0-9 and a-f"
 unfoldable pub wellFormed : ℕ → List ℕ → Bool
 wellFormed size text = eqb (length text) size && allDigits text
 
--- "A word is 4 digits. The text of one record is its W words and nothing else"
+-- RULES 10.2: "A word is 4 digits. The text of a record is its W words and nothing else"
 unfoldable pub textOf : List ℕ → List ℕ
 textOf words = rows (length words) (λ (i : ℕ). hexOf 4 (getD words i 0))
 
@@ -56,16 +56,17 @@ oneMore ch (line ∷ others) = (ch ∷ line) ∷ others
 unfoldable pub inFront : ℕ → List (List ℕ) → List (List ℕ)
 inFront ch others = cond (eqb ch lineFeed) ([] ∷ others) (oneMore ch others)
 
--- the lines of a text, without their line feeds: "What follows the last line feed is a line only if it has a character"
+-- The lines of a text. RULES 10.3: "Each line is ended by a line feed, which is not part of the line; the last line may lack it.
+-- What follows the last line feed is a line only if it has a character."
 unfoldable pub linesOf : List ℕ → List (List ℕ)
 linesOf [] = []
 linesOf (ch ∷ rest) = inFront ch (linesOf rest)
 
--- is there a line k, "counted from 1"?
+-- Is there a line k? RULES 10.3: "Lines are counted from 1."
 unfoldable pub hasLine : ℕ → List ℕ → Bool
 hasLine k text = leb 1 k && leb k (length (linesOf text))
 
--- line k, "and an empty part if there is no such line"
+-- line k. RULES 10.3: "and an empty part if there is no such line"
 unfoldable pub lineAt : ℕ → List ℕ → List ℕ
 lineAt k text = cond (hasLine k text) (getD (linesOf text) (k - 1) []) []
 
@@ -74,11 +75,11 @@ unfoldable pub spanOf : List (List ℕ) → ℕ
 spanOf [] = 0
 spanOf (line ∷ others) = length line + 1 + spanOf others
 
--- "that part of the caller's own text": line k begins behind the lines before it; the empty part for a missing line begins
--- where the text does
+-- where line k begins, behind the lines before it. RULES 10.3: "that part of the caller's own text, and an empty part if there is
+-- no such line, which begins where the text does"
 unfoldable pub startOf : ℕ → List ℕ → ℕ
 startOf k text = cond (hasLine k text) (spanOf (take (k - 1) (linesOf text))) 0
 
--- "without its line feed": where the part ends
+-- where the part ends
 abbrev pub endOf : ℕ → List ℕ → ℕ
 endOf k text = startOf k text + length (lineAt k text)

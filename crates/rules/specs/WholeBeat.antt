@@ -1,4 +1,4 @@
--- Document 01, "Whole beat".
+-- RULES 6: the whole beat.
 use Prim.Native.Nat.{ℕ, _+_, _*_, _/_, _%_, _^_}
 use mathlib.Core.Bool.{Bool, cond, _||_}
 use mathlib.Core.List.{List}
@@ -9,7 +9,7 @@ use Rattle.rules.specs.Parameters.{recordWords}
 use Rattle.rules.specs.Groups.{place, heardIn}
 use Rattle.rules.specs.OneBeat.{nextRecord}
 
--- "the broken set (bit v for card v)"
+-- RULES 6: "bit v is 1 if card v is broken"
 unfoldable pub isBroken : ℕ → ℕ → Bool
 isBroken set v = eqb (set / 2 ^ v % 2) 1
 
@@ -17,15 +17,15 @@ isBroken set v = eqb (set / 2 ^ v % 2) 1
 unfoldable pub brokenBelow : ℕ → ℕ → ℕ
 brokenBelow set v = countBelow v (isBroken set)
 
--- refusal 7: "broken set names a card at or above n, or more than f cards"
+-- RULES 9.1, refusal 7: "the broken set names a card at or above n, or more than f cards"
 unfoldable pub badSet : ℕ → ℕ → ℕ → Bool
 badSet n f set = leb (2 ^ n) set || ltb f (brokenBelow set n)
 
--- how many words the broken cards send: "n·(broken)·W"
+-- how many words the broken cards send. RULES 6: "They are n·(broken)·W words."
 abbrev pub sentWords : ℕ → ℕ → ℕ → ℕ
 sentWords n f set = n * (brokenBelow set n) * recordWords f
 
--- What the receiver v hears of u: "for each receiver in order, for each broken card in order, W words"; "A sound card is
+-- What the receiver v hears of u. RULES 6: "for each receiver in order, for each broken card in order, W words"; "A sound card is
 -- heard as held"
 unfoldable pub heardOnBeat : ℕ → ℕ → ℕ → List ℕ → List ℕ → ℕ → ℕ → ℕ → ℕ
 heardOnBeat n f set held sent v u j =
@@ -37,7 +37,7 @@ heardOnBeat n f set held sent v u j =
 unfoldable pub heldRecord : ℕ → List ℕ → ℕ → List ℕ
 heldRecord w held v = tabulate w (λ (j : ℕ). heardIn w held v j)
 
--- the record of the card v after the beat: "Broken cards' held records stay unchanged"
+-- the record of the card v after the beat. RULES 6: "Broken cards' held records stay unchanged."
 unfoldable pub recordAfter : ℕ → ℕ → ℕ → ℕ → List ℕ → List ℕ → ℕ → List ℕ
 recordAfter n f c set held sent v =
     cond (isBroken set v) (heldRecord (recordWords f) held v) (nextRecord n f c (heardOnBeat n f set held sent v) v)

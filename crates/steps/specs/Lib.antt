@@ -1,1 +1,2 @@
 pub mod Standings
+pub mod Pointers

@@ -1,6 +1,22 @@
--- The two words that the three steps change, as the rules have them.
+-- The two words that the three steps change, as the rules have them, and what the steps ask.
+use Prim.Native.Nat.{ℕ, _/_, _≤_, _<_}
 use Rattle.rules.specs.OneBeat.{Standing}
+use Rattle.columns.specs.declared.Column.{Column}
+use Rattle.columns.specs.Columns.{Within}
 use Rattle.steps.specs.declared.Standing.{Standing as Kept}
 
 abbrev pub standing : Kept → Standing
 standing s = record { a = s .a; b = s .b }
+
+-- what `step_1` asks of a column of outputs, with numbers that no sum makes too large
+pub record StepAsks (size : ℕ) (col : Column) (f c : ℕ) : Type 0 where
+  pub within : Within size col
+  pub few : f < 256
+  pub modulus : c ≤ 65535
+
+-- what `three_steps` asks: the phase d names a king of the group
+pub record ThreeStepsAsks (size : ℕ) (col : Column) (f c d : ℕ) : Type 0 where
+  pub within : Within size col
+  pub few : f < 256
+  pub modulus : c ≤ 65535
+  pub king : d / 3 < col .n

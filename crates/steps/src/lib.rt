@@ -8,7 +8,7 @@ ghost use Prim.Native.Nat.{ℕ, _+_, _*_, _/_, _<_, _≤_};
 ghost use lib.ListN.{length};
 ghost use Rattle.rules.specs.OneBeat.{obeyed, step0, step1, step2, gained, threeSteps};
 ghost use Rattle.columns.specs.Columns.{Within, votesIn};
-ghost use Rattle.steps.specs.Standings.{standing};
+ghost use Rattle.steps.specs.Standings.{standing, StepAsks, ThreeStepsAsks};
 
 // The two words that the three steps change.
 pub struct Standing {
@@ -16,7 +16,7 @@ pub struct Standing {
     pub b: bool,
 }
 
-// "Step 0: if fewer than n-f cards sent this card's a, a becomes none. b stays."
+// RULES 5.6: "Step 0. If fewer than n-f cards sent this card's a, a becomes none. b stays."
 fn step_0(recs: &[u16], col: Column, f: u32, c: u32, s: Standing) -> Standing
     requires { ⌜ (Within (length (now recs)) col) × (f < 256) ⌝ }
     ensures { λ r. ⌜ standing r ≡ step0 (col .n) f (votesIn c (now (recs .entry)) col) (standing s) ⌝ }
@@ -30,10 +30,10 @@ fn step_0(recs: &[u16], col: Column, f: u32, c: u32, s: Standing) -> Standing
     Standing { a: kept, b: s.b }
 }
 
-// "Step 1: b becomes 1 if at least n-f cards sent this card's old a, else 0 .. a becomes the smallest count heard more than f
-// times, or none."
+// RULES 5.6: "Step 1. b becomes 1 if at least n-f cards sent this card's old a, else 0"; "a becomes the smallest count heard more
+// than f times, or none if there is no such count."
 fn step_1(recs: &[u16], col: Column, f: u32, c: u32, s: Standing) -> Standing
-    requires { ⌜ (Within (length (now recs)) col) × (f < 256) × (c ≤ 65535) ⌝ }
+    requires { ⌜ StepAsks (length (now recs)) col f c ⌝ }
     ensures { λ r. ⌜ standing r ≡ step1 (col .n) f c (votesIn c (now (recs .entry)) col) (standing s) ⌝ }
 {
     let a = s.a;
@@ -44,7 +44,7 @@ fn step_1(recs: &[u16], col: Column, f: u32, c: u32, s: Standing) -> Standing
     }
 }
 
-// "if a is none or b = 0, a becomes the king's a, or 0 if the king has none"
+// RULES 5.6: "If a is none or b is 0, a becomes the king's a, or 0 if the king has none."
 fn obey(a: Vote, b: bool, king: Vote) -> Vote
     ensures { λ r. ⌜ r ≡ obeyed a b king ⌝ }
 {
@@ -60,7 +60,7 @@ fn obey(a: Vote, b: bool, king: Vote) -> Vote
     }
 }
 
-// "Step 2: .. b becomes 1."
+// RULES 5.6: after step 2 "b becomes 1."
 fn step_2(king: Vote, s: Standing) -> Standing
     ensures { λ r. ⌜ standing r ≡ step2 king (standing s) ⌝ }
 {
@@ -71,9 +71,9 @@ fn step_2(king: Vote, s: Standing) -> Standing
     }
 }
 
-// "d modulo 3 picks the step; the king is card d/3 (rounded down) of the group"
+// RULES 5.6: "d modulo 3 picks the step, and the king is card d/3 of the group."
 pub fn three_steps(recs: &[u16], col: Column, f: u32, c: u32, d: u16, s: Standing) -> Standing
-    requires { ⌜ (Within (length (now recs)) col) × (f < 256) × (c ≤ 65535) × (d / 3 < col .n) ⌝ }
+    requires { ⌜ ThreeStepsAsks (length (now recs)) col f c d ⌝ }
     ensures { λ r. ⌜ standing r ≡ threeSteps (col .n) f c (votesIn c (now (recs .entry)) col) d (standing s) ⌝ }
 {
     if d % 3 == 0 {
@@ -86,7 +86,7 @@ pub fn three_steps(recs: &[u16], col: Column, f: u32, c: u32, d: u16, s: Standin
     step_2(king, s)
 }
 
-// "After each step a count gains 1 modulo c; none stays."
+// RULES 5.6: "After each step a count gains 1 modulo c; none stays none."
 pub fn gain(c: u32, a: Vote) -> Vote
     requires { ⌜ (0 < c) × (c ≤ 65535) ⌝ }
     ensures { λ r. ⌜ r ≡ gained c a ⌝ }

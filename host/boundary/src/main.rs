@@ -2,13 +2,17 @@
 //!
 //!     step N F C CARD RECORDS OUT REFUSAL AFTER
 //!     lag C X Y REFUSAL VALUE
+//!     record F C WORDS BEATS BYTES SHOWN
 //!
 //! Numbers are decimal. RECORDS are the bytes given, OUT and AFTER those of the output buffer before and after the call,
-//! in hexadecimal, a dash for none.
+//! in hexadecimal, a dash for none. WORDS and BEATS are W and T(f), BYTES a record, and SHOWN the count that it shows.
 
 use generate::calls::{Call, LagCall, StepBytesCall};
 use generate::{Random, Shape};
 use second::bytes::bytes_of;
+use second::card::shown;
+use second::count::write;
+use second::params::{parameters, MOST_MODULUS};
 use second::refusal::Refusal;
 
 fn main() {
@@ -23,6 +27,12 @@ fn main() {
             for y in limits(c) {
                 print_lag(LagCall { c, x, y });
             }
+        }
+    }
+    for shape in Shape::each(&mut random) {
+        for c in [shape.c, MOST_MODULUS].repeat(10) {
+            let shape = Shape { c, ..shape };
+            print_record(shape, &shape.record(&mut random));
         }
     }
 }
@@ -119,6 +129,19 @@ fn print_lag(mut call: LagCall) {
     let LagCall { c, x, y } = call;
     let answer = call.make();
     println!("lag {c} {x} {y} {} {}", number(answer), answer.unwrap_or(0));
+}
+
+fn print_record(shape: Shape, record: &[u16]) {
+    let Shape { n, f, c } = shape;
+    let known = parameters(n, f).expect("a shape is not refused");
+    let count = shown(n, f, c, record).expect("nor is its record");
+    let bytes = hexadecimal(&bytes_of(record));
+    println!(
+        "record {f} {c} {} {} {bytes} {}",
+        known.words,
+        known.settled,
+        write(count)
+    );
 }
 
 fn number<T>(answer: Result<T, Refusal>) -> u8 {

@@ -15,7 +15,7 @@ pub trait Call: Clone + Debug + PartialEq {
     /// What it answers when it succeeds, besides the buffer it fills.
     type Value: Debug + PartialEq;
 
-    /// The refusals it tests, in the order of the paper's table.
+    /// The refusals it tests, in the order of the table of RULES 9.1.
     const REFUSALS: &'static [Refusal];
 
     /// A call that succeeds, with what it takes of this shape. Its output buffer, if any, holds

@@ -118,7 +118,7 @@ impl Damage {
 /// The first bad line, counted from 1, and why; none if the file is still good.
 pub type Verdict = Option<(usize, Refusal)>;
 
-/// A damaged copy of a valid file, and what the paper says of it.
+/// A damaged copy of a valid file, and what RULES 11 says of it.
 pub fn damaged(random: &mut Random, file: &RunFile, damage: Damage) -> (Vec<u8>, Verdict) {
     match damage {
         Damage::DigitTooMany => with_byte_inserted(random, file, b'0'),
@@ -292,7 +292,7 @@ fn without_last_line_feed(file: &RunFile) -> Vec<u8> {
     text
 }
 
-/// "An end after line 2 is good."
+/// RULES 11.3: "The file may end after line 2 or after any later line."
 fn verdict_of_whole_lines(count: usize) -> Verdict {
     if count < 2 {
         Some((count + 1, Refusal::Text))

@@ -61,7 +61,7 @@ fn numbers_and_characters_are_off_by_one() {
 }
 
 #[test]
-fn a_refusal_becomes_its_neighbours_in_the_papers_order() {
+fn a_refusal_becomes_its_neighbours_in_the_order_of_the_rules() {
     assert_eq!(
         made("refusal", " -> u32", "return 7;"),
         ["return 3;", "return 4;"]

@@ -6,7 +6,7 @@ use crate::refusal::Refusal;
 
 /// One beat of every sound card, from the n records held, the broken set (bit v for card v)
 /// and the words the broken cards send: "for each receiver in order, for each broken card in
-/// order, W words". Tests 1, 2, 3, 7, 5, 8 and 6.
+/// order, W words" (RULES 6). Tests 1, 2, 3, 7, 5, 8 and 6.
 pub fn beat(
     n: u32,
     f: u32,
@@ -25,10 +25,10 @@ pub fn beat(
     Refusal::BrokenWords.when(sent.len() != group.n * broken_cards.len() * words)?;
     Refusal::OutputLength.when(out.len() != records.len())?;
 
-    // "Broken cards' held records stay unchanged."
+    // RULES 6: "Broken cards' held records stay unchanged."
     out.copy_from_slice(records);
     for card in sound_cards {
-        // "A sound card is heard as held."
+        // RULES 6: "A sound card is heard as held".
         let mut heard: Vec<&[u16]> = records.chunks_exact(words).collect();
         for (place, &broken_card) in broken_cards.iter().enumerate() {
             let start = (card * broken_cards.len() + place) * words;

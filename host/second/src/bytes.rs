@@ -1,5 +1,5 @@
-//! One card's step on byte slices, as C and Rust callers reach it: "two bytes a word, low byte
-//! first (an odd byte count is a wrong length)".
+//! One card's step on byte slices, as C and Rust callers reach it. RULES 10.1: "a word is two bytes, the low byte first.
+//! An odd number of bytes is a wrong length."
 
 use crate::card;
 use crate::refusal::Refusal;

@@ -25,7 +25,7 @@ pub fn step(
     Ok(())
 }
 
-/// "Shown count. The outermost a, or none." Tests 1, 2, 3 and 5.
+/// RULES 7: "The count that a card shows is the outermost a, or none." Tests 1, 2, 3 and 5.
 pub fn shown(n: u32, f: u32, c: u32, record: &[u16]) -> Result<Option<u16>, Refusal> {
     let group = Group::outermost(n, f, c)?;
     Refusal::Records.when(record.len() != params::words(group.f))?;

@@ -3,12 +3,12 @@
 /// The word for none.
 pub const NONE: u16 = 65_535;
 
-/// "a output or M at or above its modulus is none"; an m likewise is not counted.
+/// RULES 4.2: "An output a, or an M, at or above its modulus is none"; an m likewise is not counted.
 pub fn read(word: u16, modulus: u16) -> Option<u16> {
     Some(word).filter(|&count| count < modulus)
 }
 
-/// "None" is written 65,535.
+/// RULES 1: none "is written as the word 65,535".
 pub fn write(count: Option<u16>) -> u16 {
     count.unwrap_or(NONE)
 }

@@ -30,12 +30,12 @@ impl Group {
         })
     }
 
-    /// "A group with f = 0 counts by its first member. Any other group is split".
+    /// RULES 3: "A group with f = 0 counts by its first member. Any other group is split".
     pub fn is_split(self) -> bool {
         self.f > 0
     }
 
-    /// The cards of half i: "half 0 is the first n/2 cards (rounded down)", half 1 the rest.
+    /// The cards of half i: half 0 has "the first n/2", half 1 "the rest" (RULES 3).
     pub fn cards_of_half(self, i: usize) -> Range<usize> {
         let middle = self.n / 2;
         if i == 0 {
@@ -65,7 +65,7 @@ impl Group {
         self.n - self.f
     }
 
-    /// "A group's output is its word a", as shown or counted by the group around it.
+    /// RULES 4.1: "the group's output: the count, or none", as shown or counted by the group around it.
     pub fn output(self, record: &[u16]) -> Option<u16> {
         let word = if self.is_split() { split::A } else { 0 };
         count::read(record[word], self.c)
@@ -81,11 +81,11 @@ impl Group {
         }
     }
 
-    /// "a becomes the first member's a plus 1, modulo c"; out of range it is read as 0.
+    /// RULES 5.1: "a becomes the first member's a plus 1, modulo c"; out of range it is read as 0.
     fn follow_first_member(self, first: &[u16], next: &mut [u16]) {
         let a = self.output(first).unwrap_or(0);
         next[0] = count::next(a, self.c);
-        // "Words beyond are written 0".
+        // RULES 4.1: "Words beyond these are written 0".
         next[1..].fill(0);
     }
 }

@@ -10,8 +10,8 @@ pub struct Output {
     pub b: bool,
 }
 
-/// "d modulo 3 picks the step; the king is card d/3 (rounded down) of the group." `heard` is
-/// the a of every card of the group. "After each step a count gains 1 modulo c; none stays."
+/// RULES 5.6: "d modulo 3 picks the step, and the king is card d/3 of the group." `heard` is the
+/// a of every card of the group. "After each step a count gains 1 modulo c; none stays none."
 pub fn step(group: Group, d: u16, own: Output, heard: &[Option<u16>]) -> Output {
     let king = heard[usize::from(d / 3)];
     let Output { a, b } = match d % 3 {
@@ -25,14 +25,15 @@ pub fn step(group: Group, d: u16, own: Output, heard: &[Option<u16>]) -> Output 
     }
 }
 
-/// "Step 0: if fewer than n-f cards sent this card's a, a becomes none. b stays."
+/// Step 0: "If fewer than n-f cards sent this card's a, a becomes none. b stays."
 fn drop_if_rare(group: Group, own: Output, heard: &[Option<u16>]) -> Output {
     let a = own.a.filter(|_| is_common(group, own.a, heard));
     Output { a, ..own }
 }
 
-/// "Step 1: b becomes 1 if at least n-f cards sent this card's old a, else 0 (none compares as
-/// a value here). a becomes the smallest count heard more than f times, or none."
+/// Step 1: "b becomes 1 if at least n-f cards sent this card's old a, else 0; here none is
+/// compared as if it were a value. a becomes the smallest count heard more than f times, or none
+/// if there is no such count."
 fn adopt_frequent(group: Group, own: Output, heard: &[Option<u16>]) -> Output {
     let frequent = |&count: &u16| count::times(Some(count), heard) > group.f;
     Output {
@@ -41,7 +42,7 @@ fn adopt_frequent(group: Group, own: Output, heard: &[Option<u16>]) -> Output {
     }
 }
 
-/// "Step 2: if a is none or b = 0, a becomes the king's a, or 0 if the king has none. b becomes 1."
+/// Step 2: "If a is none or b is 0, a becomes the king's a, or 0 if the king has none. b becomes 1."
 fn obey_king(own: Output, king: Option<u16>) -> Output {
     let kept = own.a.filter(|_| own.b);
     Output {

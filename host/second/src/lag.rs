@@ -3,8 +3,8 @@
 use crate::params::check_modulus;
 use crate::refusal::Refusal;
 
-/// "Lag of x against y: the number congruent to x - y modulo c that is above -c/2 and at most
-/// c/2." Tests only 3 and 9.
+/// RULES 8: "The lag of x against y is the number congruent to x - y modulo c that is above -c/2
+/// and at most c/2." Tests only 3 and 9.
 pub fn lag(c: u32, x: u32, y: u32) -> Result<i32, Refusal> {
     check_modulus(c)?;
     Refusal::LagInput.when(x >= c || y >= c)?;

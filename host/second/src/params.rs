@@ -1,4 +1,4 @@
-//! The limits and the parameters, each from its formula.
+//! The limits (RULES 2.1) and the parameters, each from its formula (RULES 2.2).
 
 use crate::refusal::Refusal;
 
@@ -7,7 +7,7 @@ pub const MOST_BROKEN: u32 = 5;
 pub const LEAST_MODULUS: u32 = 2;
 pub const MOST_MODULUS: u32 = 65_535;
 
-/// One row of the paper's table of parameters.
+/// One row of the table of RULES 2.3.
 #[derive(Clone, Copy, Debug, PartialEq, Eq)]
 pub struct Parameters {
     pub t: u16,
@@ -25,7 +25,7 @@ pub struct Parameters {
 pub fn parameters(n: u32, f: u32) -> Result<Parameters, Refusal> {
     check_cards(n, f)?;
     let f = f as usize;
-    // "For f = 0 the four middle entries are answered as 0."
+    // RULES 2.3: with f = 0 "the four middle entries are answered as 0."
     let if_split = |entry: u16| if f == 0 { 0 } else { entry };
     Ok(Parameters {
         t: if_split(t(f)),
@@ -63,18 +63,18 @@ pub fn c1(f: usize) -> u16 {
     6 * t(f)
 }
 
-/// "the cooldown restarts at 2·c1"
+/// "A cooldown restarts at 2·c1."
 pub fn restart(f: usize) -> u16 {
     2 * c1(f)
 }
 
-/// W: "8 times the number of binary digits of f (0 has none), plus 1"
+/// W: "8 times the number of binary digits of f, plus 1. The number 0 has no binary digits."
 pub fn words(f: usize) -> usize {
     let binary_digits = usize::BITS - f.leading_zeros();
     8 * binary_digits as usize + 1
 }
 
-/// "T(0) = 1, and T(f) = T(f/2 rounded down) + 2 + 21t"
+/// "T(0) = 1, and T(f) = T(f/2) + 2 + 21t."
 pub fn settled(f: usize) -> usize {
     if f == 0 {
         1

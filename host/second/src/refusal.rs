@@ -1,8 +1,8 @@
-//! The numbers for what is turned away.
+//! The numbers for what is refused.
 
 use std::fmt;
 
-/// Why a call is turned away; the values are the paper's numbers.
+/// Why a call is refused; the values are the numbers of RULES 9.1.
 #[derive(Clone, Copy, Debug, PartialEq, Eq)]
 pub enum Refusal {
     CardCount = 1,
@@ -19,7 +19,7 @@ pub enum Refusal {
 }
 
 impl Refusal {
-    /// The rows of the paper's table: "Tested in this order where they apply."
+    /// The rows of the table of RULES 9.1: "They are tested in this order".
     pub const TABLE: [Refusal; 11] = [
         Refusal::CardCount,
         Refusal::BrokenAllowance,
@@ -34,7 +34,7 @@ impl Refusal {
         Refusal::BeatNumber,
     ];
 
-    /// The paper's number, 1 to 11.
+    /// The number that RULES 9.1 gives it, 1 to 11.
     pub fn number(self) -> u8 {
         self as u8
     }

@@ -9,11 +9,12 @@ use crate::params::{self, check_cards, check_modulus};
 use crate::refusal::Refusal;
 use crate::text::{read_words, without_line_feed, write_words};
 
-/// "Beats run from 1 to fffe."
+/// RULES 11.3: "Beats run from 0001 to fffe."
 const LAST_BEAT: u16 = 0xfffe;
 
-/// Runs the file read from `input`, holding one line of it at a time. "At the first bad line
-/// it writes ffff, the line's number from 1 (8 digits), the refusal (2 digits), and stops."
+/// Runs the file read from `input`, holding one line of it at a time. RULES 11.5: "At the first
+/// bad line the run program writes ffff, the number of the line (8 digits) and the refusal
+/// (2 digits), and stops."
 pub fn run(input: impl BufRead, mut output: impl Write) -> io::Result<()> {
     let mut lines = Lines::new(input);
     match run_lines(&mut lines, &mut output) {
@@ -54,7 +55,7 @@ fn run_lines(lines: &mut Lines<impl BufRead>, output: &mut impl Write) -> Result
 
     let mut last = 0;
     while let Some(frame) = lines.next(1 + header.sent_words())? {
-        // "any well-formed line after beat fffe, is 11"
+        // RULES 11.5: 11 "is any well-formed line after beat fffe" too.
         Refusal::BeatNumber.when(last == LAST_BEAT || frame[0] != last + 1)?;
         last = frame[0];
         records = header.after_beat(&records, &frame[1..])?;
@@ -63,7 +64,7 @@ fn run_lines(lines: &mut Lines<impl BufRead>, output: &mut impl Write) -> Result
     Ok(())
 }
 
-/// Line 1: "n (2 digits), f (2), c (4), broken set (4)".
+/// RULES 11.1: "n (2 digits), f (2 digits), c (4 digits), the broken set (4 digits)."
 struct Header {
     n: u32,
     f: u32,
@@ -105,8 +106,8 @@ impl Header {
         Ok(next)
     }
 
-    /// Writes "the beat (4 digits) and, for each card in order, its shown count, ffff for none
-    /// or broken".
+    /// RULES 11.4: "the beat (4 digits) and, for each card in order, its shown count (4 digits),
+    /// ffff for none and for a broken card."
     fn show(&self, beat: u16, records: &[u16], output: &mut impl Write) -> Result<(), Stop> {
         let mut line = vec![beat];
         for (card, record) in records.chunks_exact(self.record_words()).enumerate() {

@@ -24,7 +24,7 @@ struct Kept {
 }
 
 impl Kept {
-    /// "w above 2·c1 is 2·c1; b other than 1 is 0."
+    /// RULES 4.2: "A w above 2·c1 is 2·c1." "A b other than 1 is 0."
     fn read(group: Group, record: &[u16]) -> Kept {
         let vote = |i: usize| count::read(record[BIG_M + i], group.half(i).c);
         let cooldown = |i: usize| record[W + i].min(params::restart(group.f));
@@ -38,13 +38,13 @@ impl Kept {
         }
     }
 
-    /// "di = Mi if wi = 0, else none."
+    /// RULES 5.5: "di is Mi if wi is 0, else none".
     fn observed(&self) -> [Option<u16>; 2] {
         [0, 1].map(|i| self.votes[i].filter(|_| self.cooldowns[i] == 0))
     }
 }
 
-/// "Everything on the right is from before the beat": all reading is from `heard`.
+/// RULES 5: "Everything on the right of a rule is from before the beat": all reading is from `heard`.
 pub fn step(group: Group, card: usize, heard: &[&[u16]], next: &mut [u16]) {
     let kept = Kept::read(group, heard[card]);
     for i in [0, 1] {
@@ -58,7 +58,7 @@ pub fn step(group: Group, card: usize, heard: &[&[u16]], next: &mut [u16]) {
     next[A] = count::write(output.a);
     next[B] = u16::from(output.b);
 
-    // "The card's own half also steps, as a group, on the records of that half."
+    // RULES 5.7: "The card's own half also steps, as a group, on the records of that half."
     let card_in_half = card - group.cards_of_half(own_half).start;
     let heard_in_half = records_of_half(group, own_half, heard);
     let half = group.half(own_half);
@@ -89,8 +89,8 @@ fn records_of_half<'a>(group: Group, i: usize, heard: &[&'a [u16]]) -> Vec<&'a [
         .collect()
 }
 
-/// "the most frequent output among the cards of half i, none not counted; the smallest on a
-/// tie; 0 if nothing counts"
+/// RULES 5.2: "the most frequent output among the cards of half i. None is not counted. On a tie
+/// it is the smallest; if nothing counts it is 0."
 pub fn most_frequent(outputs: &[Option<u16>]) -> u16 {
     let counted = outputs.iter().flatten().copied();
     counted
@@ -98,14 +98,14 @@ pub fn most_frequent(outputs: &[Option<u16>]) -> u16 {
         .unwrap_or(0)
 }
 
-/// "the value of mi sent by at least n-f cards of the group, else none"
+/// RULES 5.3: "the value of mi that at least n-f cards of the group sent, else none."
 pub fn vote(quorum: usize, sent: &[Option<u16>]) -> Option<u16> {
     let mut counted = sent.iter().flatten().copied();
     counted.find(|&value| count::times(Some(value), sent) >= quorum)
 }
 
-/// The new wi: "if old Mi and new Mi are both counts and new = old + 1 modulo ci, then wi less
-/// 1, not below 0. Otherwise 2·c1."
+/// RULES 5.4: "If the old Mi and the new Mi are both counts, and the new one is the old one plus
+/// 1 modulo ci, then wi becomes 1 less, but not below 0. Otherwise wi becomes 2·c1."
 pub fn cooldown(group: Group, i: usize, old: Option<u16>, new: Option<u16>, w: u16) -> u16 {
     let awaited = old.map(|count| count::next(count, group.half(i).c));
     if awaited.is_some() && new == awaited {
@@ -115,13 +115,14 @@ pub fn cooldown(group: Group, i: usize, old: Option<u16>, new: Option<u16>, w: u
     }
 }
 
-/// "Pointer pi = di divided by 3^i·t, rounded down, or none."
+/// RULES 5.5: "The pointer pi is di divided by 3^i·t; it is none if di is none."
 pub fn pointer(f: usize, i: usize, observed: Option<u16>) -> Option<usize> {
     observed.map(|d| usize::from(d / ([1, 3][i] * params::t(f))))
 }
 
-/// d for a card of the given half: "A card of half i follows pi, or the other half's pointer
-/// if pi is none. With pointer p, d = dp modulo t. If there is no pointer, or dp is none, d = 0."
+/// The phase of a card of the given half. RULES 5.5: "A card of half i follows pi, or the other
+/// half's pointer if pi is none." "If it follows the pointer p, its phase d is dp modulo t. If
+/// there is no pointer, or dp is none, d is 0."
 pub fn round(f: usize, half: usize, observed: [Option<u16>; 2]) -> u16 {
     let pointer_of = |i: usize| pointer(f, i, observed[i]);
     let followed = pointer_of(half).or_else(|| pointer_of(1 - half));

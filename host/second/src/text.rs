@@ -3,7 +3,7 @@
 use crate::params::{self, check_cards};
 use crate::refusal::Refusal;
 
-/// "A word is 4 digits", lower case, high digit first.
+/// RULES 10.2: "A word is 4 digits", lower case, the high digit first.
 const DIGITS: usize = 4;
 
 /// Writes a record as its text of 4·W digits. Tests 1, 2, 5 and 6.
@@ -23,8 +23,8 @@ pub fn read_record(n: u32, f: u32, text: &[u8], out: &mut [u16]) -> Result<(), R
     Ok(())
 }
 
-/// Line `number` of a text, counted from 1, without its line feed; 10 if there is none. "What
-/// follows the last line feed is a line only if it has a character."
+/// Line `number` of a text, counted from 1, without its line feed; 10 if there is none.
+/// RULES 10.3: "What follows the last line feed is a line only if it has a character."
 pub fn line(text: &[u8], number: usize) -> Result<&[u8], Refusal> {
     let mut lines = text.split_inclusive(|&byte| byte == b'\n');
     let line = number.checked_sub(1).and_then(|before| lines.nth(before));

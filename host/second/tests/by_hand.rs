@@ -1,4 +1,4 @@
-//! The numbers the paper gives to check by hand.
+//! The worked numbers of RULES 12, and the table of RULES 2.3.
 
 use second::beat::beat;
 use second::card::shown;
@@ -143,7 +143,7 @@ fn refused_or_not() {
 }
 
 #[test]
-fn parameters_are_the_papers_table() {
+fn parameters_are_the_table_of_the_rules() {
     let table = [
         [0, 0, 0, 0, 0, 1, 1],
         [1, 9, 18, 54, 108, 9, 192],

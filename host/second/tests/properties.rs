@@ -7,7 +7,7 @@ use second::lag::lag;
 use second::params::parameters;
 use second::text::{read_record, write_record};
 
-/// How the paper reads one word of a card's record, and what may be written there.
+/// How one word of a card's record is read (RULES 4.2), and what may be written there.
 #[derive(Clone, Copy, Debug)]
 enum Kind {
     /// m0, m1, or the a of a group with f = 0: always written below its modulus.
@@ -16,7 +16,7 @@ enum Kind {
     CountOrNone(u16),
     Cooldown(u16),
     Flag,
-    /// "Words beyond are written 0 and never read."
+    /// RULES 4.1: "Words beyond these are written 0 and never read."
     Beyond,
 }
 

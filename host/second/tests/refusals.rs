@@ -1,4 +1,4 @@
-//! Every refusal, alone and against every other, and exactly when the paper's table says.
+//! Every refusal, alone and against every other, and exactly when the table of RULES 9.1 says.
 
 use generate::calls::{
     BeatCall, Call, LagCall, ParametersCall, ReadCall, ShownCall, StepBytesCall, StepCall,
@@ -12,7 +12,7 @@ use second::params::parameters;
 use second::refusal::Refusal;
 use second::text::{read_record, write_record};
 
-/// The words in a record for each f, from the paper's table.
+/// The words in a record for each f, from the table of RULES 2.3.
 const WORDS: [usize; 6] = [1, 9, 17, 17, 25, 25];
 
 /// A call spoilt for all these reasons is refused for the first, and changes nothing.

@@ -1,4 +1,4 @@
-//! Whole steps worked out on paper, each set so that one easy mistake changes the answer.
+//! Whole steps worked out by hand, each set so that one easy mistake changes the answer.
 
 use second::card::step;
 

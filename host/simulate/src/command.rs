@@ -1,23 +1,18 @@
 //! What the program answers to its arguments.
 
-use std::fs;
-
-use crate::cooldown::{Cooldown, BOUGHT, RIGHT, TOO_SOON};
-use crate::picture::picture;
+use crate::cooldown::{Cooldown, HALF, RIGHT, TOO_SOON};
 use crate::report::{line, side_by_side, table, tried};
 use crate::strategy::STRATEGIES;
 use crate::survey::{late, Outcome, Survey};
 
 const RUNS: u64 = 2_000;
 
-/// The run that is drawn where none is asked for: the broken cards hold out long in it.
-pub const DRAWN: u64 = 1_634;
-
 /// How many late runs are told one by one, and for how many times T(f) they are watched.
 const TOLD: usize = 10;
 const LONG: usize = 10;
 
-const USAGE: &str = "\
+/// Of the launcher's command `simulate`: what `--svg` does is the package picture's.
+pub const USAGE: &str = "\
 usage: simulate [RUNS]                    how late the sound cards agree in RUNS runs
        simulate --fault cooldown [RUNS]   the same runs with wrong cooldowns beside
        simulate --seed SEED               one run with each cooldown
@@ -49,8 +44,6 @@ pub fn answer(arguments: &[&str]) -> Answer {
         ["--fault", "cooldown"] => Some(fault(RUNS)),
         ["--fault", "cooldown", runs] => number(runs).map(fault),
         ["--seed", seed] => number(seed).map(with_each_cooldown),
-        ["--svg", file] => Some(draw(file, DRAWN)),
-        ["--svg", file, "--seed", seed] => number(seed).map(|seed| draw(file, seed)),
         ["--lies"] => Some(lies()),
         [runs] => number(runs).map(agreement),
         _ => None,
@@ -61,7 +54,7 @@ pub fn answer(arguments: &[&str]) -> Answer {
     })
 }
 
-/// The table of the runs by the paper's rules; late runs are errors.
+/// The table of the runs by the rules; late runs are errors.
 fn agreement(runs: u64) -> Answer {
     let survey = Survey::new(RIGHT, runs);
     Answer {
@@ -70,22 +63,22 @@ fn agreement(runs: u64) -> Answer {
     }
 }
 
-/// The search for a run that the bought routine's fault makes late; late runs are errors with
+/// The search for a run that a cooldown restarting at c1 makes late; late runs are errors with
 /// the right cooldown only.
 fn fault(runs: u64) -> Answer {
-    let surveys = [RIGHT, BOUGHT, TOO_SOON].map(|cooldown| Survey::new(cooldown, runs));
-    let [right, bought, too_soon] = &surveys;
+    let surveys = [RIGHT, HALF, TOO_SOON].map(|cooldown| Survey::new(cooldown, runs));
+    let [right, half, too_soon] = &surveys;
     Answer {
         output: format!(
-            "The cooldown restarts at {}, as in the paper; at {}, as in the bought routine; and \
-             at {},\nwhere the search has to find late runs, or it shows nothing of the others.\n\n\
+            "The cooldown restarts at {}, by the rules; at {}, which is half of it; and at {},\n\
+             where the search has to find late runs, or it shows nothing of the others.\n\n\
              {}\nlies: {}\n\n{}{}",
             right.cooldown.name,
-            bought.cooldown.name,
+            half.cooldown.name,
             too_soon.cooldown.name,
             side_by_side(&surveys),
             tried(right),
-            found(bought),
+            found(half),
             found(too_soon),
         ),
         errors: late_runs(right),
@@ -116,20 +109,9 @@ fn one_run(seed: u64, cooldown: Cooldown) -> String {
 }
 
 fn with_each_cooldown(seed: u64) -> Answer {
-    let cooldowns = [RIGHT, BOUGHT, TOO_SOON];
+    let cooldowns = [RIGHT, HALF, TOO_SOON];
     let runs: String = cooldowns.map(|cooldown| one_run(seed, cooldown)).concat();
     Answer::from(runs)
-}
-
-/// Draws a run by the paper's rules into a file, and tells it in one line.
-fn draw(file: &str, seed: u64) -> Answer {
-    match fs::write(file, picture(seed)) {
-        Ok(()) => Answer::from(format!("{}\n", line(&Outcome::of(seed, RIGHT, 1)))),
-        Err(error) => Answer {
-            errors: format!("simulate: {file} cannot be written: {error}\n"),
-            ..Answer::default()
-        },
-    }
 }
 
 fn lies() -> Answer {

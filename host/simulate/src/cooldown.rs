@@ -1,4 +1,4 @@
-//! Where the cooldown restarts: by the paper, in the bought routine, and far too soon.
+//! Where the cooldown restarts: by the rules at 2·c1, or at c1, or far too soon.
 
 use second::params;
 use second::split;
@@ -13,15 +13,15 @@ pub struct Cooldown {
     pub restart: fn(usize) -> u16,
 }
 
-/// The paper's rule.
+/// By the rules (RULES 5.4).
 pub const RIGHT: Cooldown = Cooldown {
     name: "2·c1",
     restart: params::restart,
 };
 
-/// The bought routine's fault. No run was found that it makes late, and docs/SETTLES.md says why
-/// there may be none.
-pub const BOUGHT: Cooldown = Cooldown {
+/// A cooldown that restarts at c1, half as long. No run was found that it makes late, and
+/// docs/SETTLES.md says why there may be none.
+pub const HALF: Cooldown = Cooldown {
     name: "c1",
     restart: params::c1,
 };

@@ -4,15 +4,14 @@
 
 pub mod command;
 pub mod cooldown;
+pub mod counter;
 pub mod directed;
 mod divide;
 pub mod level;
 pub mod liars;
-pub mod picture;
 pub mod plan;
-mod report;
+pub mod report;
 pub mod scene;
-pub mod stamps;
 pub mod start;
 pub mod strategy;
 pub mod survey;

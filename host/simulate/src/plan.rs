@@ -7,6 +7,7 @@ use second::count;
 use second::params;
 
 use crate::cooldown::Cooldown;
+use crate::counter::{Counter, SECOND};
 use crate::directed::Directed;
 use crate::level::Level;
 use crate::liars::Liars;
@@ -50,6 +51,7 @@ pub struct Plan {
     pub broken: u32,
     lies: Lies,
     table: Vec<u16>,
+    counter: Counter,
     adversary: Box<dyn Adversary>,
 }
 
@@ -84,8 +86,14 @@ impl Plan {
             broken,
             lies,
             table,
+            counter: SECOND,
             adversary,
         }
+    }
+
+    /// The same run of cards that go by another program.
+    pub fn counted_by(self, counter: Counter) -> Plan {
+        Plan { counter, ..self }
     }
 
     /// T(f).
@@ -102,15 +110,20 @@ impl Plan {
         }
     }
 
+    fn begin(self, cooldown: Cooldown) -> (Scene, Box<dyn Adversary>) {
+        let scene = Scene::new(self.shape, self.broken, self.table, cooldown);
+        (scene.counted_by(self.counter), self.adversary)
+    }
+
     /// The beat since when all sound cards show one same count and go on by one, if they do
     /// after so many beats.
-    pub fn together_since(mut self, cooldown: Cooldown, beats: usize) -> Option<usize> {
+    pub fn together_since(self, cooldown: Cooldown, beats: usize) -> Option<usize> {
         let modulus = self.shape.c as u16;
-        let mut scene = Scene::new(self.shape, self.broken, self.table, cooldown);
+        let (mut scene, mut adversary) = self.begin(cooldown);
         let mut since = scene.common_count().map(|_| 0);
         while scene.beat < beats {
             let awaited = scene.common_count().map(|now| count::next(now, modulus));
-            scene.advance(self.adversary.as_mut());
+            scene.advance(adversary.as_mut());
             let now = scene.common_count();
             if now != awaited || now.is_none() {
                 since = now.map(|_| scene.beat);
@@ -121,13 +134,13 @@ impl Plan {
 
     /// The counts after 0 to so many beats: of a sound card the one that it shows, of a broken
     /// card all that it then tells sound cards.
-    pub fn shown(mut self, cooldown: Cooldown, beats: usize) -> Vec<Row> {
-        let mut scene = Scene::new(self.shape, self.broken, self.table, cooldown);
+    pub fn shown(self, cooldown: Cooldown, beats: usize) -> Vec<Row> {
+        let (mut scene, mut adversary) = self.begin(cooldown);
         let mut rows = Vec::new();
         while scene.beat <= beats {
             let held = scene.cards().map(|card| scene.shown(scene.record(card)));
             let mut row: Row = held.map(|count| count.into_iter().collect()).collect();
-            scene.advance(self.adversary.as_mut());
+            scene.advance(adversary.as_mut());
             for liar in scene.broken_cards() {
                 let told = |listener| scene.shown(scene.told(liar, listener));
                 row[liar] = scene.sound_cards().filter_map(told).collect();

@@ -5,9 +5,9 @@ use std::ops::Range;
 
 use generate::Shape;
 use second::beat::is_broken;
-use second::card;
 
 use crate::cooldown::Cooldown;
+use crate::counter::{Counter, SECOND};
 use crate::level::Level;
 
 /// How many beats back the broken cards remember.
@@ -29,10 +29,11 @@ pub struct Scene {
     /// The beats done.
     pub beat: usize,
     cooldown: Cooldown,
+    counter: Counter,
     paths: Vec<Vec<Level>>,
     /// The newest table first. A broken card's record is what it would hold if it were sound.
     tables: VecDeque<Vec<u16>>,
-    /// What the broken cards told on the last beat, in the order of the paper's whole beat.
+    /// What the broken cards told on the last beat, in the order of a run file (RULES 6).
     told: Vec<u16>,
 }
 
@@ -44,12 +45,18 @@ impl Scene {
             broken,
             beat: 0,
             cooldown,
+            counter: SECOND,
             paths: cards.map(|card| Level::path(shape, card)).collect(),
             tables: VecDeque::new(),
             told: Vec::new(),
         };
         scene.hold(start);
         scene
+    }
+
+    /// The same cards, going by another program from now on.
+    pub fn counted_by(self, counter: Counter) -> Scene {
+        Scene { counter, ..self }
     }
 
     /// The groups that a card belongs to, outermost first.
@@ -111,16 +118,24 @@ impl Scene {
                 told.extend(adversary.tell(self, liar, listener));
             }
         }
-        let now = &self.tables[0];
-        let mut next = self.shape.after_beat(self.broken, now, &told);
-        let Shape { n, f, c } = self.shape;
-        for card in self.broken_cards() {
-            let record = &mut next[card * self.shape.words()..][..self.shape.words()];
-            card::step(n, f, c, card as u32, now, record).expect("a table is within the rules");
-        }
-        self.beat += 1;
         self.told = told;
+        let step = |card| (self.counter.step)(self.shape, card, &self.heard(card));
+        let next = self.cards().flat_map(step).collect();
+        self.beat += 1;
         self.hold(next);
+    }
+
+    /// The records that a card hears on the beat that is under way. A broken card steps as if all
+    /// were sound.
+    fn heard(&self, listener: usize) -> Vec<u16> {
+        let mut heard = self.tables[0].clone();
+        if self.is_sound(listener) {
+            for liar in self.broken_cards() {
+                let place = liar * self.shape.words();
+                heard[place..][..self.shape.words()].copy_from_slice(self.told(liar, listener));
+            }
+        }
+        heard
     }
 
     fn hold(&mut self, mut table: Vec<u16>) {

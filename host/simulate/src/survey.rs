@@ -3,6 +3,7 @@
 use generate::Shape;
 
 use crate::cooldown::Cooldown;
+use crate::counter::{Counter, SECOND};
 use crate::plan::Plan;
 
 /// Beats watched in any case beyond T(f), to see agreement last.
@@ -26,7 +27,12 @@ pub struct Outcome {
 impl Outcome {
     /// The run with this seed, watched for so many times T(f) and somewhat longer.
     pub fn of(seed: u64, cooldown: Cooldown, times: usize) -> Outcome {
-        let plan = Plan::of(seed);
+        Outcome::counted_by(SECOND, seed, cooldown, times)
+    }
+
+    /// The same, of cards that go by another program.
+    pub fn counted_by(counter: Counter, seed: u64, cooldown: Cooldown, times: usize) -> Outcome {
+        let plan = Plan::of(seed).counted_by(counter);
         let bound = plan.bound();
         let watched = times * bound + BEYOND;
         Outcome {

@@ -1,10 +1,6 @@
 //! What the program answers.
 
-use std::fs;
-use std::path::Path;
-
-use simulate::command::{answer, Answer, DRAWN};
-use simulate::picture::picture;
+use simulate::command::{answer, Answer};
 use simulate::strategy::STRATEGIES;
 
 /// The words of each line of an answer without errors.
@@ -66,30 +62,6 @@ fn every_strategy_is_described() {
 }
 
 #[test]
-fn the_picture_is_written_and_its_run_told() {
-    let file = Path::new(env!("CARGO_TARGET_TMPDIR")).join("run.svg");
-    let name = file.to_str().unwrap();
-    for (arguments, seed) in [
-        (&["--svg", name][..], DRAWN),
-        (&["--svg", name, "--seed", "7"], 7),
-    ] {
-        let told = lines(arguments).concat().join(" ");
-        assert!(told.starts_with(&format!("seed {seed}, ")), "{told}");
-        assert!(fs::read_to_string(&file).unwrap() == picture(seed));
-    }
-}
-
-#[test]
-fn a_picture_that_cannot_be_written_is_an_error() {
-    // A folder is no file.
-    let folder = env!("CARGO_TARGET_TMPDIR");
-    let Answer { output, errors } = answer(&["--svg", folder]);
-    assert_eq!(output, "");
-    let wanted = format!("simulate: {folder} cannot be written: ");
-    assert!(errors.starts_with(&wanted), "{errors}");
-}
-
-#[test]
 fn other_arguments_get_the_usage_as_an_error() {
     for wrong in [
         &["many"][..],
@@ -97,8 +69,6 @@ fn other_arguments_get_the_usage_as_an_error() {
         &["--fault", "kings"],
         &["1", "2"],
         &["--seed"],
-        &["--svg"],
-        &["--svg", "/dev/null", "--seed", "many"],
     ] {
         let answer = answer(wrong);
         assert_eq!(answer.output, "");

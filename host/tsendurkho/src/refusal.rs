@@ -1,8 +1,8 @@
 use std::error::Error;
 use std::fmt;
 
-/// Why a call is turned away. The values are the numbers of the paper, and each is given exactly
-/// when its words hold; a call gives the first that applies, in this order.
+/// Why a call is refused. The values are the numbers of RULES 9.1, and each is given exactly when
+/// its words hold; a call gives the first that applies, in this order, and changes nothing.
 #[derive(Clone, Copy, Debug, PartialEq, Eq, Hash)]
 pub enum Refusal {
     /// n is 0 or above 16
@@ -11,7 +11,7 @@ pub enum Refusal {
     Broken = 2,
     /// c below 2 or above 65,535
     Modulus = 3,
-    /// card number at or above n
+    /// card number at or above n, or a card of another rack
     Card = 4,
     /// records not the needed words
     Records = 5,
@@ -22,7 +22,7 @@ pub enum Refusal {
 }
 
 impl Refusal {
-    /// The paper's number.
+    /// The number that RULES 9.1 gives it.
     pub fn number(self) -> u32 {
         self as u32
     }
@@ -49,7 +49,7 @@ impl fmt::Display for Refusal {
             Refusal::Cards => "n is 0 or above 16",
             Refusal::Broken => "f above 5, or 3f >= n",
             Refusal::Modulus => "c below 2 or above 65,535",
-            Refusal::Card => "card number at or above n",
+            Refusal::Card => "card number at or above n, or a card of another rack",
             Refusal::Records => "records not the needed words",
             Refusal::Output => "output buffer not exactly the needed length",
             Refusal::Lag => "a lag input at or above c",

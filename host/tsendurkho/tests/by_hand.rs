@@ -1,6 +1,9 @@
-//! The numbers that the paper gives to check by hand, through the proved step and lag.
+//! The worked numbers of RULES 12, through the proved step and lag.
 
-use tsendurkho::{lag, step, NONE};
+mod common;
+
+use common::rack;
+use tsendurkho::{Rack, Refusal, NONE};
 
 /// One card's record in a group of four or seven, of which this much matters.
 #[derive(Clone, Copy)]
@@ -45,16 +48,23 @@ impl Record {
     }
 }
 
-/// The next record of a card: n=4, f=1, c=8.
+/// n=4, f=1, c=8.
+fn four() -> Rack {
+    rack(4, 1, 8).unwrap()
+}
+
+/// The next record of a card of four.
 fn next_of_four(card: u32, records: [Record; 4]) -> Vec<u16> {
-    step(4, 1, 8, card, &records.map(Record::words).concat()).unwrap()
+    let heard = records.map(Record::words).concat();
+    four().step(four().card(card).unwrap(), &heard).unwrap()
 }
 
 #[test]
 fn two_cards_follow_the_first() {
-    for card in [0, 1] {
-        assert_eq!(step(2, 0, 3, card, &[2, 1]), Ok(vec![0]));
-        assert_eq!(step(2, 0, 3, card, &[7, 1]), Ok(vec![1]));
+    let two = rack(2, 0, 3).unwrap();
+    for card in two.cards() {
+        assert_eq!(two.step(card, &[2, 1]), Ok(vec![0]));
+        assert_eq!(two.step(card, &[7, 1]), Ok(vec![1]));
     }
 }
 
@@ -67,13 +77,16 @@ fn votes_of_four() {
 
 #[test]
 fn votes_of_seven() {
+    let seven = rack(7, 2, 8).unwrap();
     let vote = |sent: [u16; 7]| {
         let records = sent.map(|sent| {
             let mut words = [NONE; 17];
             words[0] = sent;
             words
         });
-        step(7, 2, 8, 0, &records.concat()).unwrap()[2]
+        seven
+            .step(seven.card(0).unwrap(), &records.concat())
+            .unwrap()[2]
     };
     assert_eq!(vote([6, 1, 6, 6, 2, 6, 3]), NONE);
     assert_eq!(vote([6, 1, 6, 6, 6, 6, 3]), 6);
@@ -165,19 +178,14 @@ fn step_2() {
 
 #[test]
 fn lags() {
-    assert_eq!(lag(8, 1, 7), Ok(2));
-    assert_eq!(lag(8, 7, 1), Ok(-2));
-    assert_eq!(lag(8, 4, 0), Ok(4));
+    assert_eq!(four().lag(1, 7), Ok(2));
+    assert_eq!(four().lag(7, 1), Ok(-2));
+    assert_eq!(four().lag(4, 0), Ok(4));
 }
 
 #[test]
 fn refused_or_not() {
-    let refusal = |n: u32, f: u32, c: u32| {
-        let records = vec![0; n as usize * tsendurkho::record_words(f)];
-        step(n, f, c, 0, &records)
-            .err()
-            .map(|refusal| refusal.number())
-    };
+    let refusal = |n: u32, f: u32, c: u32| rack(n, f, c).err().map(Refusal::number);
     assert_eq!(refusal(16, 5, 8), None);
     assert_eq!(refusal(15, 5, 8), Some(2));
     assert_eq!(refusal(4, 1, 8), None);

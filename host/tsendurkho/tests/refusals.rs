@@ -1,11 +1,14 @@
-//! Every refusal, alone and against every other, exactly when the paper's table says; and a
+//! Every refusal, alone and against every other, exactly when the table of RULES 9.1 says; and a
 //! refused call changes nothing.
 
-use generate::calls::{Call, LagCall, StepBytesCall};
+mod common;
+
+use common::rack;
+use generate::calls::{Call, LagCall, ShownCall, StepBytesCall, StepCall};
 use generate::Random;
 use tsendurkho::Refusal;
 
-/// The words in a record for each f, from the paper's table.
+/// The words in a record for each f, from the table of RULES 2.3.
 const WORDS: [usize; 6] = [1, 9, 17, 17, 25, 25];
 
 /// What an answer is worth beside the second implementation's.
@@ -13,12 +16,12 @@ type Numbered<T> = Result<T, u32>;
 
 /// A call that both implementations can make.
 trait Both: Call {
-    fn proved(&mut self) -> Numbered<Self::Value>;
+    fn by_rack(&mut self) -> Result<Self::Value, Refusal>;
 
     fn alike(&self) -> Numbered<Self::Value> {
         let (mut by_proved, mut by_second) = (self.clone(), self.clone());
         let wanted = by_second.make().map_err(|refusal| refusal.number().into());
-        let answer = by_proved.proved();
+        let answer = by_proved.by_rack().map_err(Refusal::number);
         assert_eq!(answer, wanted, "{self:?}");
         assert_eq!(by_proved, by_second, "{self:?}");
         assert!(answer.is_ok() || by_proved == *self, "{self:?}");
@@ -26,16 +29,31 @@ trait Both: Call {
     }
 }
 
+impl Both for StepCall {
+    fn by_rack(&mut self) -> Result<(), Refusal> {
+        let rack = rack(self.n, self.f, self.c)?;
+        rack.step_into(rack.card(self.card)?, &self.records, &mut self.out)
+    }
+}
+
 impl Both for StepBytesCall {
-    fn proved(&mut self) -> Numbered<()> {
-        let StepBytesCall { n, f, c, card, .. } = *self;
-        tsendurkho::step_bytes(n, f, c, card, &self.records, &mut self.out).map_err(Refusal::number)
+    fn by_rack(&mut self) -> Result<(), Refusal> {
+        let rack = rack(self.n, self.f, self.c)?;
+        rack.step_bytes(rack.card(self.card)?, &self.records, &mut self.out)
+    }
+}
+
+impl Both for ShownCall {
+    fn by_rack(&mut self) -> Result<Option<u16>, Refusal> {
+        rack(self.n, self.f, self.c)?.shown_count(&self.record)
     }
 }
 
 impl Both for LagCall {
-    fn proved(&mut self) -> Numbered<i32> {
-        tsendurkho::lag(self.c, self.x, self.y).map_err(Refusal::number)
+    /// What is no word is asked as the largest word, which is at or above every modulus too.
+    fn by_rack(&mut self) -> Result<i32, Refusal> {
+        let [x, y] = [self.x, self.y].map(|input| u16::try_from(input).unwrap_or(u16::MAX));
+        rack(1, 0, self.c)?.lag(x, y)
     }
 }
 
@@ -66,12 +84,22 @@ fn sound_alone_and_in_pairs<C: Both>(seed: u64) {
 
 #[test]
 fn step_alone_and_in_pairs() {
-    sound_alone_and_in_pairs::<StepBytesCall>(1);
+    sound_alone_and_in_pairs::<StepCall>(1);
+}
+
+#[test]
+fn step_on_bytes_alone_and_in_pairs() {
+    sound_alone_and_in_pairs::<StepBytesCall>(2);
+}
+
+#[test]
+fn shown_count_alone_and_in_pairs() {
+    sound_alone_and_in_pairs::<ShownCall>(3);
 }
 
 #[test]
 fn lag_alone_and_in_pairs() {
-    sound_alone_and_in_pairs::<LagCall>(2);
+    sound_alone_and_in_pairs::<LagCall>(4);
 }
 
 /// The number of the first condition that holds, or 0.
@@ -106,7 +134,10 @@ fn step_is_refused_as_tabled(n: u32, f: u32, c: u32, card: u32, records: usize, 
         (6, out != 2 * words),
     ]);
     let mut buffer = vec![0xab; out];
-    let answer = tsendurkho::step_bytes(n, f, c, card, &vec![0; records], &mut buffer);
+    let answer = rack(n, f, c).and_then(|rack| {
+        let card = rack.card(card)?;
+        rack.step_bytes(card, &vec![0; records], &mut buffer)
+    });
     assert_eq!(number_of(answer), wanted);
     assert!(wanted == 0 || buffer == vec![0xab; out]);
 }
@@ -130,34 +161,45 @@ fn a_step_is_refused_exactly_as_tabled() {
 }
 
 #[test]
+fn a_shown_count_is_refused_exactly_for_its_length() {
+    for f in 0..=5 {
+        let rack = rack(16, f, 65_535).expect("sixteen cards may have any allowed f");
+        let words = WORDS[f as usize];
+        for length in [0, 1, words - 1, words, words + 1, 16 * words] {
+            let wanted = first_of(&[(5, length != words)]);
+            assert_eq!(number_of(rack.shown_count(&vec![0; length])), wanted);
+        }
+    }
+}
+
+#[test]
 fn a_lag_is_refused_exactly_as_tabled() {
-    let inputs = [0, 1, 2, 65_534, 65_535, 65_536, u32::MAX];
+    let inputs = [0, 1, 2, 65_534, 65_535];
     for c in MODULI {
         for x in inputs {
             for y in inputs {
-                let wanted = first_of(&[(3, !(2..=65_535).contains(&c)), (9, x >= c || y >= c)]);
-                assert_eq!(number_of(tsendurkho::lag(c, x, y)), wanted);
+                let above = u32::from(x) >= c || u32::from(y) >= c;
+                let wanted = first_of(&[(3, !(2..=65_535).contains(&c)), (9, above)]);
+                let answer = rack(1, 0, c).and_then(|rack| rack.lag(x, y));
+                assert_eq!(number_of(answer), wanted);
             }
         }
     }
 }
 
 #[test]
-fn a_step_on_words_refuses_what_it_can_get_wrong() {
-    let refusal = |n, f, c, card, words| number_of(tsendurkho::step(n, f, c, card, words));
-    assert_eq!(refusal(0, 0, 3, 0, &[]), 1);
-    assert_eq!(refusal(3, 1, 3, 0, &[0; 27]), 2);
-    assert_eq!(refusal(u32::MAX, u32::MAX, 3, 0, &[]), 1);
-    assert_eq!(refusal(16, u32::MAX, 3, 0, &[]), 2);
-    assert_eq!(refusal(4, 1, 1, 0, &[0; 36]), 3);
-    assert_eq!(refusal(4, 1, 8, 4, &[0; 36]), 4);
-    assert_eq!(refusal(4, 1, 8, 0, &[0; 35]), 5);
-    assert_eq!(refusal(4, 1, 8, 0, &[0; 36]), 0);
+fn a_step_that_makes_its_own_buffer_refuses_what_it_can_get_wrong() {
+    let rack = rack(4, 1, 8).expect("the shape is within the limits");
+    let card = rack.card(3).expect("there are four cards");
+    for length in [0, 9, 35, 37, 72] {
+        assert_eq!(number_of(rack.step(card, &vec![0; length])), 5);
+    }
+    assert_eq!(number_of(rack.step(card, &[0; 36])), 0);
 }
 
 #[test]
 fn refusals_say_why() {
-    let refusal = tsendurkho::lag(8, 8, 0).unwrap_err();
+    let refusal = rack(1, 0, 8).and_then(|rack| rack.lag(8, 0)).unwrap_err();
     assert_eq!(refusal.to_string(), "a lag input at or above c");
     assert_eq!(refusal.number(), 9);
 }

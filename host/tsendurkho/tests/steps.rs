@@ -1,8 +1,12 @@
 //! The proved step against the second implementation, on single tables and on whole runs.
 
+mod common;
+
+use common::rack;
 use generate::{Random, Shape};
 use second::beat::is_broken;
 use second::params;
+use tsendurkho::Rack;
 
 /// Tables for each n, f and c.
 const TABLES: usize = 40;
@@ -17,9 +21,17 @@ fn shapes(random: &mut Random) -> Vec<Shape> {
     shapes
 }
 
+fn rack_of(shape: Shape) -> Rack {
+    rack(shape.n, shape.f, shape.c).expect("a generated shape is within the limits")
+}
+
 fn proved(shape: Shape, card: u32, table: &[u16]) -> Vec<u16> {
-    let Shape { n, f, c } = shape;
-    tsendurkho::step(n, f, c, card, table).expect("a generated step is within the rules")
+    let rack = rack_of(shape);
+    let card = rack
+        .card(card)
+        .expect("a generated card is one of the rack");
+    rack.step(card, table)
+        .expect("a generated step is within the rules")
 }
 
 fn second(shape: Shape, card: u32, table: &[u16]) -> Vec<u16> {
@@ -90,19 +102,20 @@ fn beat(shape: Shape, broken: u32, table: &[u16], sent: &[u16]) -> Vec<u16> {
 }
 
 /// The counts that the sound cards show.
-fn counts(shape: Shape, broken: u32, table: &[u16]) -> Vec<u32> {
-    let a = if shape.f == 0 { 0 } else { 6 };
-    let records = table.chunks_exact(shape.words()).enumerate();
-    records
-        .filter(|(card, _)| !is_broken(broken, *card))
-        .map(|(_, record)| record[a].into())
+fn counts(shape: Shape, broken: u32, table: &[u16]) -> Vec<Option<u16>> {
+    let rack = rack_of(shape);
+    let records = table.chunks_exact(rack.record_words()).enumerate();
+    let sound = records.filter(|(card, _)| !is_broken(broken, *card));
+    let shown = sound.map(|(_, record)| rack.shown_count(record));
+    shown
+        .map(|count| count.expect("a record has W words"))
         .collect()
 }
 
 /// From any start, through all beats to T(f) and some after it, as the second implementation
 /// has it; and from T(f) on the sound cards show one count, one more on each beat.
 fn runs_and_settles(shape: Shape, random: &mut Random) {
-    let settled = params::settled(shape.f as usize);
+    let settled = rack_of(shape).settle_beats();
     let broken = (1 << shape.f) - 1;
     let mut table: Vec<u16> = (0..shape.table_words()).map(|_| random.word()).collect();
     let mut last = None;
@@ -114,9 +127,13 @@ fn runs_and_settles(shape: Shape, random: &mut Random) {
         table = next;
         if beats >= settled {
             let counts = counts(shape, broken, &table);
-            let count = last.map_or(counts[0], |last| (last + 1) % shape.c);
-            assert!(count < shape.c, "{shape:?}, beat {beats}: {count}");
-            assert_eq!(counts, vec![count; counts.len()], "{shape:?}, beat {beats}");
+            let first = counts[0].expect("a settled card shows a count");
+            let count = last.map_or(first, |last| (last + 1) % shape.c as u16);
+            assert_eq!(
+                counts,
+                vec![Some(count); counts.len()],
+                "{shape:?}, beat {beats}"
+            );
             last = Some(count);
         }
     }

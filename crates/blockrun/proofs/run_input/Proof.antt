@@ -17,11 +17,16 @@ abbrev μ-loop : tie.MeasureT-loop
 same : (c : tie.After-get Inv-loop μ-loop) → length (c .get .last .0) ≡ 65536
 same c = c .get .kept .0 ∙ c .before .before .before .loop .inv .0
 
+-- the read of the piece that a turn feeds
+abbrev read : (c : tie.After-run-piece Inv-loop μ-loop) → tie.After-get Inv-loop μ-loop
+read c = let fed = c .before .before .before in fed .before .before .before
+
 -- and what is read is one piece more
-one-more : (c : tie.After-run-piece Inv-loop μ-loop) → Reached (c .run-piece .result .feed) (c .run-piece .last .1 .1 .0) (c .run-piece .last .1 .1 .1 .0)
+one-more : (c : tie.After-run-piece Inv-loop μ-loop)
+    → Reached (c .run-piece .result .feed) (c .run-piece .last .1 .1 .0) (c .run-piece .last .1 .1 .1 .0)
 one-more c =
-    let l = c .before .before .before .before .before .before .before .before .before in
-    reached-more _ _ _ _ _ _ _ (l .loop .inv .1) (c .run-piece .ensures)
+    let turn = read c .before .before .before in
+    reached-more _ _ _ _ _ _ _ (turn .loop .inv .1) (c .run-piece .ensures)
 
 pub run-input-spec : {M : Type 1} → statement M
 run-input-spec =
@@ -35,12 +40,12 @@ run-input-spec =
     (λ c. search needs)
     (λ c. search needs)
     (λ c κs. search needs)
-    (λ c. c .before .before .before .before .before .loop .inv .1)
+    (λ c. let got = c .before .before in got .before .before .before .loop .inv .1)
     (λ c. search needs)
     (λ c. search needs)
     (λ c κs. search needs)
     (λ c κs. search needs)
     (λ c. one-more (c .before .before))
     (λ c. search needs)
-    (λ c. (same (c .before .before .before .before .before .before .before .before), one-more (c .before .before)))
+    (λ c. let fed = c .before .before in (same (read fed), one-more fed))
     (λ c. c .before .loop .inv .1))

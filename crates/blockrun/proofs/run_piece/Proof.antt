@@ -29,7 +29,8 @@ loop-again : tie.Need-loop-again Inv-loop μ-loop
 loop-again c =
     let f = c .before .before in
     let l = f .before .before .before .before .before in
-    part-fed _ (l .before .before .args .piece .now) (l .loop .at) _ _ _ (f .feed-from .result) _ _ _ (f .feed-from .ensures) ∙ l .loop .inv
+    let piece = l .before .before .args .piece .now in
+    part-fed _ piece (l .loop .at) _ _ _ (f .feed-from .result) _ _ _ (f .feed-from .ensures) ∙ l .loop .inv
 
 returns : tie.Need-returns Inv-loop μ-loop
 returns c =

@@ -20,11 +20,12 @@ step-group-requires : tie.Need-step-group-requires
 step-group-requires c κs =
     let s = c .before .before .before .before in
     let a = s .args in
-    let g = good s in (
-      whole-fits (a .n) (a .f) (a .c) (a .card) _ _ (c .before .record-words .result) g (c .before .record-words .ensures),
-      g .card-below,
-      omega (arith, g .out-whole),
-    )
+    let g = good s in
+    record {
+      fits = whole-fits (a .n) (a .f) (a .c) (a .card) _ _ (c .before .record-words .result) g (c .before .record-words .ensures);
+      member = g .card-below;
+      words = omega (arith, g .out-whole);
+    }
 
 returns : tie.Need-returns
 unfolding stepOut

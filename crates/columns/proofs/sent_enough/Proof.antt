@@ -17,18 +17,22 @@ a-count : tie.Need-returns
 a-count c =
     let y = c .before .before .before .y in
     let s = c .before .before .before .before .before .before in
-    rw (y .given .1) (c .all-but .ensures ∙ ap (enough (s .args .col .n) (s .args .f)) (sent-x (words s) (s .args .m) (s .args .col .n) (y .given .0 .0) (omega arith)))
+    let n = s .args .col .n in
+    rw (y .given .1)
+    (c .all-but .ensures ∙ ap (enough n (s .args .f)) (sent-x (words s) (s .args .m) n (y .given .0 .0) (omega arith)))
 
 no-count : tie.Need-returns-2
 no-count c =
     let y = c .before .before .before .y in
     let s = c .before .before .before .before .before .before in
-    rw (y .given .1, sent-never (words s) (s .args .m) (s .args .col .n) (y .given .0 .0) (c .before .if1 .left)) (enough-zero (s .args .col .n) (s .args .f))
+    let n = s .args .col .n in
+    rw (y .given .1, sent-never (words s) (s .args .m) n (y .given .0 .0) (c .before .if1 .left)) (enough-zero n (s .args .f))
 
 none : tie.Need-returns-3
 none c =
     let s = c .before .before .before .before in
-    rw (c .before .enum-told .given .1, c .more-than .ensures) (enough-rest (s .args .col .n) (s .args .f) _ _ (sent-none (words s) (s .args .m) (s .args .col .n)))
+    let n = s .args .col .n in
+    rw (c .before .enum-told .given .1, c .more-than .ensures) (enough-rest n (s .args .f) _ _ (sent-none (words s) (s .args .m) n))
 
 pub sent-enough-spec : {M : Type 1} → statement M
 sent-enough-spec =

@@ -63,13 +63,14 @@ loop-again c =
     (c .if1 .came)
 
 -- the votes of the column
-abbrev votes : tie.After-loop Inv-loop μ-loop → ℕ → Vote
-votes c = votesIn (c .before .before .before .args .c) (c .before .before .before .args .recs .now) (c .before .before .before .args .col)
+abbrev votes : tie.Start Inv-loop μ-loop → ℕ → Vote
+votes s = votesIn (s .args .c) (s .args .recs .now) (s .args .col)
 
 -- what was sent and lies below the best is not supported
 passed : (c : tie.After-loop Inv-loop μ-loop)
-    → let a = c .before .before .before .args in
-    (v x : ℕ) → v < a .col .n → votes c v ≡ Count x → x < c .before .loop .best → sentBy (a .col .n) (votes c) (Count x) ≤ a .f
+    → let s = c .before .before .before in
+    let n = s .args .col .n in
+    (v x : ℕ) → v < n → votes s v ≡ Count x → x < c .before .loop .best → sentBy n (votes s) (Count x) ≤ s .args .f
 passed c v x lv e l =
     let a = c .before .before .before .args in
     let s : wordIn (a .recs .now) (a .col) v ≡ x = read-is (a .c) (wordIn (a .recs .now) (a .col) v) x e .0 in
@@ -77,16 +78,17 @@ passed c v x lv e l =
 
 found : tie.Need-returns Inv-loop μ-loop
 found c =
-    let a = c .before .before .before .before .args in
+    let l = c .before .before in
+    let s = l .before .before in
     sym
-    (supported-found (votesIn (a .c) (a .recs .now) (a .col)) (a .col .n) (a .f) (a .c) (c .before .before .loop .best) (c .if3 .taken)
-    (c .before .before .loop .inv .2 (c .if3 .taken)) (passed (c .before)))
+    (supported-found (votes s) (s .args .col .n) (s .args .f) (s .args .c) (l .loop .best) (c .if3 .taken)
+    (l .loop .inv .2 (c .if3 .taken)) (passed (c .before)))
 
 none : tie.Need-returns-2 Inv-loop μ-loop
 none c =
-    let a = c .before .before .before .before .args in
+    let s = c .before .before .before .before in
     sym
-    (supported-none (votesIn (a .c) (a .recs .now) (a .col)) (a .col .n) (a .f) (a .c)
+    (supported-none (votes s) (s .args .col .n) (s .args .f) (s .args .c)
     (λ v x lv e l. passed (c .before) v x lv e (omega arith)))
 
 pub smallest-supported-spec : {M : Type 1} → statement M

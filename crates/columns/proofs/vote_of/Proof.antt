@@ -25,36 +25,41 @@ abbrev μ-loop : tie.MeasureT-loop
 μ-loop recs col f m n enough tally₀ u₀ tally u = col .n - u
 
 -- the votes of the column
-abbrev votes : tie.At-loop Inv-loop μ-loop → ℕ → Vote
-votes l = votesIn (l .before .before .args .m) (l .before .before .args .recs .now) (l .before .before .args .col)
+abbrev votes : tie.Start Inv-loop μ-loop → ℕ → Vote
+votes s = votesIn (s .args .m) (s .args .recs .now) (s .args .col)
 
 -- where x is sent once more: its tally is small, and is how often it was sent
 more : (c : tie.Then1 Inv-loop μ-loop)
     → let l = c .before .before .before in
+    let v = votes (l .before .before) in
     let x = c .before .said .result in
     let again = getD (l .loop .tally) x 0 + 1 in
-    (again ≤ 256) × (votes l (l .loop .u) ≡ Count x) × (sentBy (l .loop .u + 1) (votes l) (Count x) ≡ again)
+    (again ≤ 256) × (v (l .loop .u) ≡ Count x) × (sentBy (l .loop .u + 1) v (Count x) ≡ again)
 more c =
     let l = c .before .before .before in
+    let v = votes (l .before .before) in
     let m = l .before .before .args .m in
+    let u = l .loop .u in
     let x = c .before .said .result in
-    let z : votes l (l .loop .u) ≡ Count x = ap (readVote m) (sym (c .before .said .ensures)) ∙ read-below m x (c .if1 .taken) in
+    let z : v u ≡ Count x = ap (readVote m) (sym (c .before .said .ensures)) ∙ read-below m x (c .if1 .taken) in
     let t = l .loop .inv .2 .counts x (c .if1 .taken) in
-    (omega (arith, sent-le (votes l) (l .loop .u) (Count x)), z, sent-yes (votes l) (l .loop .u) (Count x) z ∙ ap (λ (k : ℕ). k + 1) (sym t))
+    (omega (arith, sent-le v u (Count x)), z, sent-yes v u (Count x) z ∙ ap (λ (k : ℕ). k + 1) (sym t))
 
 found : tie.Need-returns Inv-loop μ-loop
 found c =
     let l = c .before .before .before .before in
-    let a = l .before .before .args in
-    let v = votesIn (a .m) (a .recs .now) (a .col) in
+    let s = l .before .before in
     let x = c .before .before .said .result in
-    sym (vote-found v (a .col .n) (a .f) (a .m) (l .loop .u + 1) x (omega arith) (omega arith) (omega arith) (omega (arith, more (c .before) .2)))
+    let enough = more (c .before) .2 in
+    sym
+    (vote-found (votes s) (s .args .col .n) (s .args .f) (s .args .m) (l .loop .u + 1) x
+    (omega arith) (omega arith) (omega arith) (omega (arith, enough)))
 
 loop-again : tie.Need-loop-again Inv-loop μ-loop
 loop-again c =
     let l = c .before .before .before in
     let a = l .before .before .args in
-    let v = votesIn (a .m) (a .recs .now) (a .col) in
+    let v = votes (l .before .before) in
     let u = l .loop .u in
     let x = c .before .said .result in
     ⊎-elim
@@ -66,15 +71,20 @@ loop-again c =
       still-short v (a .col .n) (a .f) (a .m) u x (r .1) (omega (arith, r .2)) (l .loop .inv .3),
     ))
     (λ w. let z : v u ≡ None = ap (readVote (a .m)) (sym (c .before .said .ensures)) ∙ read-above (a .m) x (w .0 .left) in
-    rw (w .1)
-    (omega arith, l .loop .inv .1, tally-same v (a .m) (l .loop .tally) u z (l .loop .inv .2), short-still v (a .col .n) (a .f) (a .m) u z (l .loop .inv .3)))
+    rw (w .1) (
+      omega arith,
+      l .loop .inv .1,
+      tally-same v (a .m) (l .loop .tally) u z (l .loop .inv .2),
+      short-still v (a .col .n) (a .f) (a .m) u z (l .loop .inv .3),
+    ))
     (c .if1 .came)
 
 returns : tie.Need-returns-2 Inv-loop μ-loop
 returns c =
-    let a = c .before .before .before .args in
-    let e : c .before .loop .u ≡ a .col .n = omega arith in
-    sym (vote-none (votesIn (a .m) (a .recs .now) (a .col)) (a .col .n) (a .f) (a .m) (rw e at (c .before .loop .inv .3)))
+    let s = c .before .before .before in
+    let n = s .args .col .n in
+    let e : c .before .loop .u ≡ n = omega arith in
+    sym (vote-none (votes s) n (s .args .f) (s .args .m) (rw e at (c .before .loop .inv .3)))
 
 pub vote-of-spec : {M : Type 1} → statement M
 vote-of-spec =
@@ -83,15 +93,14 @@ vote-of-spec =
     Inv-loop
     μ-loop
     (λ c. omega arith)
-    (λ c. let a = c .before .args in
-    let v = votesIn (a .m) (a .recs .now) (a .col) in
-    (omega arith, refl, tally-start v (a .m) 128 (omega arith), λ j l. omega (arith, sent-zero v (Count j))))
+    (λ c. let v = votes (c .before) in
+    (omega arith, refl, tally-start v (c .before .args .m) 128 (omega arith), λ j l. omega (arith, sent-zero v (Count j))))
     (λ c κs. search needs)
     (λ c. search needs)
     (λ c. omega arith)
     (λ c. let l = c .before .before .before in
-    let a = l .before .before .args in
-    omega (arith, l .loop .inv .2 .counts (c .before .said .result) (c .if1 .taken), sent-le (votesIn (a .m) (a .recs .now) (a .col)) (l .loop .u) (Count (c .before .said .result))))
+    let x = c .before .said .result in
+    omega (arith, l .loop .inv .2 .counts x (c .if1 .taken), sent-le (votes (l .before .before)) (l .loop .u) (Count x)))
     (λ c. omega arith)
     (λ c. omega (arith, more c .0))
     (λ c. search needs)

@@ -8,8 +8,8 @@ use borrow.Fn.Kinds.{In}
 use borrow.Fn.PlainCycle.{Measures, is, falls, and}
 use Rattle.level.specs.Groups.{heardBy}
 use Rattle.rules.proofs.Records.{eight-words}
-use Rattle.level.proofs.Places.{split-narrow, split-cards}
-use Rattle.level.proofs.Rows.{row-is}
+use Rattle.level.proofs.Places.{split-cards}
+use Rattle.level.proofs.Rows.{halves-asked}
 use Rattle.groups.proofs.Words.{node-is, half-is, half-smaller}
 use Rattle.groups.proofs.step_half.Reads as step-half
 use Rattle.groups.proofs.step_half.Kinds as step-half-kinds
@@ -47,66 +47,102 @@ step-split-below t = and 2 step-split-kinds.ps (falls 2 step-split-kinds.ps _<_ 
 pub +step-half+step-split-spec : {M : Type 1} → statement M
 +step-half+step-split-spec =
     close μ-step-half μ-step-split
-    (λ t. step-half-lts.spec (half-zero-reads.Asked, half-zero-reads.Learnt, step-leaf-reads.Asked, step-leaf-reads.Learnt, step-split-below t, step-split.Post, half-one-reads.Asked, half-one-reads.Learnt)
+    (λ t. step-half-lts.spec (
+      half-zero-reads.Asked,
+      half-zero-reads.Learnt,
+      step-leaf-reads.Asked,
+      step-leaf-reads.Learnt,
+      step-split-below t,
+      step-split.Post,
+      half-one-reads.Asked,
+      half-one-reads.Learnt,
+    )
     (step-half-at t) step-half.Post
-    (λ c κs. let s = c .before .before .before .before .before .before in
-    let g = s .pre .1 .0 in
-    (g .some, split-narrow g, row-is (s .args .g .f) (s .args .row) (g .some) (s .pre .1 .2) .m0))
+    (λ c κs. let s = c .before .before .before .before .before .before in halves-asked (s .pre .1 .0) .0)
     (λ c κs. let s = c .before .before .before .before .before .before .before .before in
-    let h = half-smaller (s .args .g) (c .before .half-zero .result) 0 (s .pre .1 .0) (omega arith) (c .before .half-zero .ensures) in
-    (h .1, omega arith, omega (arith, s .pre .1 .3)))
-    (λ c κs. let s = c .before .before .before .before .before .before in
-    let g = s .pre .1 .0 in
-    (g .some, split-narrow g, row-is (s .args .g .f) (s .args .row) (g .some) (s .pre .1 .2) .m0))
+    let h = half-smaller 0 (s .pre .1 .0 .split) (omega arith) (c .before .half-zero .ensures) in
+    record { fits = h .fits; none = omega arith; place = omega (arith, s .pre .1 .1) })
+    (λ c κs. let s = c .before .before .before .before .before .before in halves-asked (s .pre .1 .0) .0)
     (λ c κs. let s = c .before .before .before .before .before .before .before .before in
-    let h = half-smaller (s .args .g) (c .before .half-zero2 .result) 0 (s .pre .1 .0) (omega arith) (c .before .half-zero2 .ensures) in
-    (omega (arith, s .pre .0), (record { fits = h .1; some = omega arith }, omega arith, omega (arith, s .pre .1 .3))))
+    let h = half-smaller 0 (s .pre .1 .0 .split) (omega arith) (c .before .half-zero2 .ensures) in (
+      omega (arith, s .pre .0),
+      record { split = record { fits = h .fits; some = omega arith }; member = omega arith; words = omega (arith, s .pre .1 .1) },
+    ))
     (λ c κs. let s = c .before .before .before .before .before .before in
-    let g = s .pre .1 .0 in
-    (g .some, split-narrow g, split-cards g, row-is (s .args .g .f) (s .args .row) (g .some) (s .pre .1 .2) .m1))
+    (halves-asked (s .pre .1 .0) .1, split-cards (s .pre .1 .0 .split)))
     (λ c κs. let s = c .before .before .before .before .before .before .before .before in
-    let h = half-smaller (s .args .g) (c .before .half-one .result) 1 (s .pre .1 .0) (omega arith) (c .before .half-one .ensures) in
-    (h .1, omega arith, omega (arith, s .pre .1 .3)))
+    let h = half-smaller 1 (s .pre .1 .0 .split) (omega arith) (c .before .half-one .ensures) in
+    record { fits = h .fits; none = omega arith; place = omega (arith, s .pre .1 .1) })
     (λ c κs. let s = c .before .before .before .before .before .before in
-    let g = s .pre .1 .0 in
-    (g .some, split-narrow g, split-cards g, row-is (s .args .g .f) (s .args .row) (g .some) (s .pre .1 .2) .m1))
+    (halves-asked (s .pre .1 .0) .1, split-cards (s .pre .1 .0 .split)))
     (λ c κs. let s = c .before .before .before .before .before .before .before .before in
-    let h = half-smaller (s .args .g) (c .before .half-one2 .result) 1 (s .pre .1 .0) (omega arith) (c .before .half-one2 .ensures) in
-    (omega (arith, s .pre .0), (record { fits = h .1; some = omega arith }, omega (arith, s .pre .1 .1), omega (arith, s .pre .1 .3))))
+    let h = half-smaller 1 (s .pre .1 .0 .split) (omega arith) (c .before .half-one2 .ensures) in (
+      omega (arith, s .pre .0),
+      record {
+        split = record { fits = h .fits; some = omega arith };
+        member = omega (arith, s .pre .1 .0 .member);
+        words = omega (arith, s .pre .1 .1);
+      },
+    ))
     (λ c. c .before .before .step-leaf .kept .1 .1 .0)
     (λ c. let h = c .before .before .before .before in
-    let s = h .before .before .before .before .before .before .before in
-    half-is (s .args .recs .now) (s .args .g) (h .half-zero .result) 0 (s .args .card) (s .args .card) (s .args .out .now) _ (s .pre .1 .0) (omega arith) (h .half-zero .ensures)
-    (simp (lt-ltb _ _ (h .before .before .before .if1 .taken))) (omega arith) (c .before .before .step-leaf .ensures (s .args .card)))
+    let first = h .before .before .before in
+    let s = first .before .before .before .before in
+    let a = s .args in
+    half-is (a .recs .now) 0 (a .card) (a .card) (a .out .now) _ (s .pre .1 .0 .split) (omega arith) (h .half-zero .ensures)
+    (simp (lt-ltb _ _ (first .if1 .taken))) (omega arith) (c .before .before .step-leaf .ensures (a .card)))
     (λ c. c .before .before .step-split .kept .1 .1 .1 .0)
     (λ c. let h = c .before .before .before .before in
-    let s = h .before .before .before .before .before .before .before in
-    half-is (s .args .recs .now) (s .args .g) (h .half-zero2 .result) 0 (s .args .card) (s .args .card) (s .args .out .now) _ (s .pre .1 .0) (omega arith) (h .half-zero2 .ensures)
-    (simp (lt-ltb _ _ (h .before .before .before .if1 .taken))) (omega arith) (c .before .before .step-split .ensures))
+    let first = h .before .before .before in
+    let s = first .before .before .before .before in
+    let a = s .args in
+    half-is (a .recs .now) 0 (a .card) (a .card) (a .out .now) _ (s .pre .1 .0 .split) (omega arith) (h .half-zero2 .ensures)
+    (simp (lt-ltb _ _ (first .if1 .taken))) (omega arith) (c .before .before .step-split .ensures))
     (λ c. c .before .before .step-leaf2 .kept .1 .1 .0)
     (λ c. let h = c .before .before .before .before in
-    let s = h .before .before .before .before .before .before .before in
-    half-is (s .args .recs .now) (s .args .g) (h .half-one .result) 1 (s .args .card) _ (s .args .out .now) _ (s .pre .1 .0) (omega arith) (h .half-one .ensures)
-    (simp (le-ltb _ _ (h .before .before .before .if1 .left))) refl (c .before .before .step-leaf2 .ensures _))
+    let second = h .before .before .before in
+    let s = second .before .before .before .before in
+    let a = s .args in
+    half-is (a .recs .now) 1 (a .card) _ (a .out .now) _ (s .pre .1 .0 .split) (omega arith) (h .half-one .ensures)
+    (simp (le-ltb _ _ (second .if1 .left))) refl (c .before .before .step-leaf2 .ensures _))
     (λ c. c .before .before .step-split2 .kept .1 .1 .1 .0)
     (λ c. let h = c .before .before .before .before in
-    let s = h .before .before .before .before .before .before .before in
-    half-is (s .args .recs .now) (s .args .g) (h .half-one2 .result) 1 (s .args .card) _ (s .args .out .now) _ (s .pre .1 .0) (omega arith) (h .half-one2 .ensures)
-    (simp (le-ltb _ _ (h .before .before .before .if1 .left))) refl (c .before .before .step-split2 .ensures)))
-    (λ t. step-split-lts.spec (row-of-reads.Asked, row-of-reads.Learnt, next-level-reads.Asked, next-level-reads.Learnt, put-level-reads.Asked, put-level-reads.Learnt, step-half-below t, step-half.Post)
+    let second = h .before .before .before in
+    let s = second .before .before .before .before in
+    let a = s .args in
+    half-is (a .recs .now) 1 (a .card) _ (a .out .now) _ (s .pre .1 .0 .split) (omega arith) (h .half-one2 .ensures)
+    (simp (le-ltb _ _ (second .if1 .left))) refl (c .before .before .step-split2 .ensures)))
+    (λ t. step-split-lts.spec (
+      row-of-reads.Asked,
+      row-of-reads.Learnt,
+      next-level-reads.Asked,
+      next-level-reads.Learnt,
+      put-level-reads.Asked,
+      put-level-reads.Learnt,
+      step-half-below t,
+      step-half.Post,
+    )
     (step-split-at t) step-split.Post
-    (λ c κs. c .before .before .pre .1 .0 .fits .broken)
-    (λ c κs. let s = c .before .before .before .before in (s .pre .1 .0, s .pre .1 .1, c .before .row-of .ensures))
-    (λ c κs. let s = c .before .before .before .before .before in omega (arith, s .pre .1 .2, eight-words (s .args .g .f) (s .pre .1 .0 .some)))
-    (λ c κs. let r = c .before .before .before .before .before .before in
+    (λ c κs. c .before .before .pre .1 .split .fits .broken)
+    (λ c κs. let s = c .before .before .before .before in
+    record { split = s .pre .1 .split; member = s .pre .1 .member; row-is = c .before .row-of .ensures })
+    (λ c κs. let s = c .before .before .before .before .before in
+    omega (arith, s .pre .1 .words, eight-words (s .args .g .f) (s .pre .1 .split .some)))
+    (λ c κs. let put = c .before .before .before in
+    let r = put .before .before .before in
     let s = r .before .before .before in (
       omega (arith, s .pre .0),
-      (s .pre .1 .0, s .pre .1 .1, r .row-of .ensures, omega (arith, s .pre .1 .2, c .before .before .before .put-level .kept .0)),
+      (
+        record { split = s .pre .1 .split; member = s .pre .1 .member; row-is = r .row-of .ensures },
+        omega (arith, s .pre .1 .words, put .put-level .kept .0),
+      ),
     ))
-    (λ c. c .before .before .step-half .kept .1 .1 .1 .1 .0 ∙ c .before .before .before .before .before .before .put-level .kept .0)
-    (λ c. let p = c .before .before .before .before .before .before in
-    let l = p .before in
+    (λ c. let put = c .before .before .before .before .before .before in
+    c .before .before .step-half .kept .1 .1 .1 .1 .0 ∙ put .put-level .kept .0)
+    (λ c. let put = c .before .before .before .before .before .before in
+    let l = put .before in
     let s = l .before .before .before .before .before in
     let g = s .args .g in
-    node-is (g .n) (g .f) (g .c) (heardBy (s .args .recs .now) g) (s .args .card) (g .base) (s .args .out .now) (p .put-level .last .0) _ (l .next-level .result)
-    (s .pre .1 .0 .some) (l .next-level .ensures) (p .put-level .ensures) (c .before .before .step-half .ensures)))
+    node-is (g .n) (g .f) (g .c) (heardBy (s .args .recs .now) g) (s .args .card) (g .base) (s .args .out .now) (put .put-level .last .0)
+    _ (l .next-level .result) (s .pre .1 .split .some) (l .next-level .ensures) (put .put-level .ensures)
+    (c .before .before .step-half .ensures)))

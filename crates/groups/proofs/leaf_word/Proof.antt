@@ -14,8 +14,13 @@ said-requires c κs = let t = c .before .before .pre in rw (c .column .ensures) 
 returns : tie.Need-returns
 unfolding leafNext
 returns c =
-    let p = c .before in
-    rw (p .count-or-0 .ensures, p .before .read-vote .ensures, p .before .before .said .ensures, p .before .before .before .column .ensures)
+    let said = c .before .before .before in
+    rw (
+      c .before .count-or-0 .ensures,
+      c .before .before .read-vote .ensures,
+      said .said .ensures,
+      said .before .column .ensures,
+    )
 
 pub leaf-word-spec : {M : Type 1} → statement M
 leaf-word-spec =

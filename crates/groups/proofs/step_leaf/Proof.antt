@@ -9,7 +9,8 @@ returns : tie.Need-returns
 returns c =
     let s = c .before .before .before in
     let g = s .args .g in
-    λ card. leaf-is (g .n) (g .f) (g .c) (heardBy (s .args .recs .now) g) card (g .base) (s .args .out .now) (c .leaf-word .result) (s .pre .1) (c .leaf-word .ensures)
+    λ card. leaf-is (g .n) (g .f) (g .c) (heardBy (s .args .recs .now) g) card (g .base) (s .args .out .now) (c .leaf-word .result)
+    (s .pre .none) (c .leaf-word .ensures)
 
 pub step-leaf-spec : {M : Type 1} → statement M
 step-leaf-spec =

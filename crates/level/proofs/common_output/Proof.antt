@@ -12,10 +12,12 @@ most-requires : tie.Need-most-frequent-requires
 most-requires c κs =
     let s = c .before .before .before .before in
     rw (c .before .column .ensures, c .before .before .output-place .ensures .0)
-    (outputs-within (s .pre .0), omega (arith, s .pre .0 .two), s .pre .1)
+    (record { within = outputs-within (s .pre .0); some = omega (arith, s .pre .0 .two); room = s .pre .1 })
 
 returns : tie.Need-returns
-returns c = rw (c .most-frequent .ensures, c .before .before .column .ensures, c .before .before .before .output-place .ensures .0)
+returns c =
+    let column = c .before .before in
+    rw (c .most-frequent .ensures, column .column .ensures, column .before .output-place .ensures .0)
 
 pub common-output-spec : {M : Type 1} → statement M
 common-output-spec = tie.close (tie.spec (λ c κs. search needs) column-requires (λ c. search needs) most-requires returns)

@@ -4,26 +4,28 @@ use mathlib.Core.Path.{ap, _∙_}
 use native.Mathlib.Omega.{arith}
 use Rattle.rules.specs.OneBeat.{Standing, nextWait}
 use Rattle.level.specs.Levels.{levelAfter}
-use Rattle.level.proofs.Places.{split-narrow, split-cards, half-fits, half-common}
-use Rattle.level.proofs.Rows.{RowOf, row-is}
+use Rattle.level.proofs.Places.{split-cards, half-fits, half-common}
+use Rattle.level.proofs.Rows.{RowOf, row-is, halves-asked}
 use Rattle.level.proofs.next_level.Statement.{statement}
 use Rattle.level.proofs.next_level.Tie as tie
 
 row : (c : tie.Start) → RowOf (c .args .g .f) (c .args .row)
-row c = row-is (c .args .g .f) (c .args .row) (c .pre .0 .some) (c .pre .2)
+row c = row-is (c .args .g .f) (c .args .row) (c .pre .split .some) (c .pre .row-is)
 
 returns : tie.Need-returns
 unfolding levelAfter nextWait
 returns c =
-    let stand = c .before .before .before .before in
+    let one = c .before in
+    let zero = one .before .before in
+    let stand = zero .before in
     let voted = stand .before in
     let votes = voted .before .before in
     let own = votes .before .before in
     let s = own .before .before in
     let r = row s in
-    let recs = s .args .recs .now in
-    let m0 = c .before .before .common-output .ensures ∙ half-common recs (s .args .g) (c .before .before .before .half-zero .result) 0 (c .before .before .before .half-zero .ensures) in
-    let m1 = c .common-output2 .ensures ∙ half-common recs (s .args .g) (c .before .half-one .result) 1 (c .before .half-one .ensures) in
+    let common = half-common (s .args .recs .now) (s .args .g) in
+    let m0 = one .before .common-output .ensures ∙ common (zero .half-zero .result) 0 (zero .half-zero .ensures) in
+    let m1 = c .common-output2 .ensures ∙ common (one .half-one .result) 1 (one .half-one .ensures) in
     simp (
       m1,
       m0,
@@ -44,19 +46,18 @@ next-level-spec =
     tie.close
     (tie.spec
     (λ c κs. search needs)
-    (λ c κs. let s = c .before .before in (s .pre .0, omega arith, row s .m0))
-    (λ c κs. let s = c .before .before .before in (s .pre .0, omega arith, row s .m1))
-    (λ c κs. omega (arith, row (c .before .before .before .before) .m0))
-    (λ c κs. omega (arith, row (c .before .before .before .before .before) .m1))
+    (λ c κs. let s = c .before .before in record { split = s .pre .split; a-half = omega arith; modulus = row s .m0 })
+    (λ c κs. let s = c .before .before .before in record { split = s .pre .split; a-half = omega arith; modulus = row s .m1 })
+    (λ c κs. let s = c .before .before .before .before in omega (arith, row s .m0))
+    (λ c κs. let s = c .before .before .before .before .before in omega (arith, row s .m1))
     (λ c κs. let own = c .before .before .before .before in
     let s = own .before .before in
-    (s .pre .0, s .pre .1, s .pre .2, own .read-level .ensures))
-    (λ c κs. let s = c .before .before .before .before .before .before .before in
-    (s .pre .0 .some, split-narrow (s .pre .0), row s .m0))
+    (s .pre, own .read-level .ensures))
+    (λ c κs. let s = c .before .before .before .before .before .before .before in halves-asked (s .pre) .0)
     (λ c κs. let s = c .before .before .before .before .before .before .before .before in
-    rw (c .half-zero .ensures) (half-fits (s .pre .0) 0 (omega arith), omega (arith, s .pre .0 .fits .broken)))
+    rw (c .half-zero .ensures) (half-fits (s .pre .split) 0 (omega arith), omega (arith, s .pre .split .fits .broken)))
     (λ c κs. let s = c .before .before .before .before .before .before .before .before .before in
-    (s .pre .0 .some, split-narrow (s .pre .0), split-cards (s .pre .0), row s .m1))
+    (halves-asked (s .pre) .1, split-cards (s .pre .split)))
     (λ c κs. let s = c .before .before .before .before .before .before .before .before .before .before in
-    rw (c .half-one .ensures) (half-fits (s .pre .0) 1 (omega arith), omega (arith, s .pre .0 .fits .broken)))
+    rw (c .half-one .ensures) (half-fits (s .pre .split) 1 (omega arith), omega (arith, s .pre .split .fits .broken)))
     returns)

@@ -15,7 +15,7 @@ use Rattle.level.proofs.next_standing.Statement.{statement}
 use Rattle.level.proofs.next_standing.Tie as tie
 
 row : (c : tie.Start) → RowOf (c .args .g .f) (c .args .row)
-row c = row-is (c .args .g .f) (c .args .row) (c .pre .0 .some) (c .pre .2)
+row c = row-is (c .args .g .f) (c .args .row) (c .pre .0 .split .some) (c .pre .0 .row-is)
 
 -- the king is a card of the group
 king : (c : tie.After-phase) → c .phase .result / 3 < c .before .before .args .g .n
@@ -24,28 +24,38 @@ king c =
     let s = c .before .before in
     let f = s .args .g .f in
     let below : c .phase .result < turn f = rw (c .phase .ensures) (mod-lt _ (omega arith)) in
-    omega (arith, s .pre .0 .fits .few, s .pre .0 .some)
+    let g = s .pre .0 .split in
+    omega (arith, g .fits .few, g .some)
 
 returns : tie.Need-returns
 unfolding keptD
 returns c =
-    let s = c .before .before .before .before .before in
+    let stepped = c .before in
+    let column = stepped .before in
+    let phased = column .before in
+    let s = phased .before .before in
     let g = s .args .g in
-    let own = s .pre .3 in
-    stand-is (g .n) (g .f) (g .c) (heardBy (s .args .recs .now) g) (s .args .card) (c .before .before .before .phase .result) (c .gain .result)
-    (standing (c .before .three-steps .result)) (s .pre .0 .some)
-    (c .before .before .before .phase .ensures ∙ rw own)
-    (c .before .three-steps .ensures ∙ rw (c .before .before .column .ensures, own))
+    let own = s .pre .1 in
+    stand-is (g .n) (g .f) (g .c) (heardBy (s .args .recs .now) g) (s .args .card) (phased .phase .result) (c .gain .result)
+    (standing (stepped .three-steps .result)) (s .pre .0 .split .some)
+    (phased .phase .ensures ∙ rw own)
+    (stepped .three-steps .ensures ∙ rw (column .column .ensures, own))
     (c .gain .ensures)
 
 pub next-standing-spec : {M : Type 1} → statement M
 next-standing-spec =
     tie.close
     (tie.spec
-    (λ c κs. let r = row (c .before) in (r .t, omega (arith, r .t, c .before .pre .0 .fits .broken)))
-    (λ c κs. split-place (c .before .before .pre .0) 6 (omega arith))
-    (λ c κs. let s = c .before .before .before in
-    let g = s .pre .0 .fits in
-    rw (c .column .ensures) (column-within (s .pre .0) 6 (omega arith), omega (arith, g .broken), g .modulus, king (c .before)))
+    (λ c κs. let r = row (c .before) in
+    record { is = r .t; short = omega (arith, r .t, c .before .pre .0 .split .fits .broken) })
+    (λ c κs. split-place (c .before .before .pre .0 .split) 6 (omega arith))
+    (λ c κs. let g = c .before .before .before .pre .0 .split in
+    rw (c .column .ensures)
+    (record {
+      within = column-within g 6 (omega arith);
+      few = omega (arith, g .fits .broken);
+      modulus = g .fits .modulus;
+      king = king (c .before);
+    }))
     (λ c κs. search needs)
     returns)

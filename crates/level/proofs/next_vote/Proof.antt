@@ -1,6 +1,5 @@
 -- `level::next_vote` meets its contract.
 use borrow.Author.Needs.{needs}
-use mathlib.Core.Path.{_≡_}
 use Prim.Native.Nat.{ℕ, zero, suc, _≤_}
 use native.Mathlib.Omega.{arith}
 use borrow.Author.Tests.{ne-eqb}
@@ -20,15 +19,20 @@ returns : tie.Need-returns
 unfolding nextVote
 returns c =
     let s = c .before .before .before .before in
-    rw (c .vote-of .ensures, c .before .before .column .ensures, s .pre .2)
+    rw (c .vote-of .ensures, c .before .before .column .ensures, s .pre .modulus)
 
 pub next-vote-spec : {M : Type 1} → statement M
 next-vote-spec =
     tie.close
     (tie.spec
-    (λ c κs. split-place (c .before .pre .0) (c .before .args .half) (omega arith))
+    (λ c κs. split-place (c .before .pre .split) (c .before .args .half) (omega arith))
     (λ c. search needs)
     (λ c κs. let s = c .before .before .before in
-    let few = s .pre .0 .fits .few in
-    rw (c .before .column .ensures, s .pre .2) (column-within (s .pre .0) (s .args .half) (omega arith), few, modulus-small (s .args .half) (s .args .g .f) (s .pre .0 .fits .broken)))
+    let fits = s .pre .split .fits in
+    rw (c .before .column .ensures, s .pre .modulus)
+    (record {
+      within = column-within (s .pre .split) (s .args .half) (omega arith);
+      few = fits .few;
+      room = modulus-small (s .args .half) (s .args .g .f) (fits .broken);
+    }))
     returns)

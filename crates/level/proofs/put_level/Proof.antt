@@ -38,11 +38,11 @@ put-level-spec =
     (λ c. search needs)
     (λ c. simp length-set (omega arith))
     (λ c. simp length-set)
-    (λ c.
+    (λ c. let vote1 = c .before .before in
     simp (
       c .bit-of .ensures,
       c .before .word-of3 .ensures,
-      c .before .before .word-of2 .ensures,
-      c .before .before .before .word-of .ensures,
+      vote1 .word-of2 .ensures,
+      vote1 .before .word-of .ensures,
       unary-clauses,
     )))

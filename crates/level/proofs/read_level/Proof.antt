@@ -8,22 +8,26 @@ use Rattle.level.proofs.read_level.Tie as tie
 
 returns : tie.Need-returns
 returns c =
-    let five = c .before .before .before .before .before in
-    let ten = five .before .before .before .before .before in
-    let s = ten .before .before .before .before .before .before in
-    let r = row-is (s .args .g .f) (s .args .row) (s .pre .0 .some) (s .pre .2) in
+    let wait1 = c .before .before .before in
+    let wait0 = wait1 .before .before in
+    let vote1 = wait0 .before .before in
+    let vote0 = vote1 .before .before .before in
+    let words = vote0 .before .before .before in
+    let s = words .before .before .before in
+    let some = s .pre .split .some in
+    let r = row-is (s .args .g .f) (s .args .row) some (s .pre .row-is) in
     simp (
-      ne-eqb (s .args .g .f) 0 (omega (arith, s .pre .0 .some)),
-      ten .before .before .before .before .word-at .ensures,
-      ten .before .before .before .word-at2 .ensures,
-      ten .read-vote .ensures,
-      ten .before .word-at3 .ensures,
-      five .before .before .read-vote2 .ensures,
-      five .before .before .before .word-at4 .ensures,
-      five .at-most .ensures,
-      five .before .word-at5 .ensures,
-      c .before .before .before .at-most2 .ensures,
-      c .before .before .before .before .word-at6 .ensures,
+      ne-eqb (s .args .g .f) 0 (omega (arith, some)),
+      words .before .word-at .ensures,
+      words .word-at2 .ensures,
+      vote0 .read-vote .ensures,
+      vote0 .before .word-at3 .ensures,
+      vote1 .read-vote2 .ensures,
+      vote1 .before .word-at4 .ensures,
+      wait0 .at-most .ensures,
+      wait0 .before .word-at5 .ensures,
+      wait1 .at-most2 .ensures,
+      wait1 .before .word-at6 .ensures,
       c .before .read-vote3 .ensures,
       c .before .before .word-at7 .ensures,
       c .word-at8 .ensures,
@@ -50,5 +54,9 @@ read-level-spec =
     (λ c κs. search needs)
     (λ c κs. search needs)
     (λ c κs. search needs)
-    (λ c κs. let s = c .before .before .before .before .before .before .before .before .before .before .before .before .before .before .before in (s .pre .0, s .pre .1, omega arith))
+    (λ c κs. let wait1 = c .before .before in
+    let vote1 = wait1 .before .before .before .before in
+    let words = vote1 .before .before .before .before .before .before in
+    let s = words .before .before .before in
+    record { split = s .pre .split; member = s .pre .member; place = omega arith })
     returns)

@@ -20,25 +20,30 @@ no-old c = let a = c .before .before .args in rw (c .enum-told .given .1) (sym (
 
 no-new : tie.Need-returns-2
 unfolding cooldown follows
-no-new c = rw (c .before .before .before .old .given .1, c .enum-told2 .given .1)
+no-new c =
+    let count = c .before .before .before in
+    rw (count .old .given .1, c .enum-told2 .given .1)
 
 jumped : tie.Need-returns-3
 unfolding cooldown follows
 jumped c =
     let n = c .before .before in
-    rw (n .before .before .before .old .given .1, n .new .given .1, ne-eqb _ _ (c .if1 .taken))
+    let o = n .before .before .before in
+    rw (o .old .given .1, n .new .given .1, ne-eqb _ _ (c .if1 .taken))
 
 done : tie.Need-returns-4
 unfolding cooldown follows
 done c =
     let n = c .before .before .before in
-    rw (n .before .before .before .old .given .1, n .new .given .1, eq-eqb _ _ (c .before .if1 .left)) (omega arith)
+    let o = n .before .before .before in
+    rw (o .old .given .1, n .new .given .1, eq-eqb _ _ (c .before .if1 .left)) (omega arith)
 
 less : tie.Need-returns-5
 unfolding cooldown follows
 less c =
     let n = c .before .before .before in
-    rw (n .before .before .before .old .given .1, n .new .given .1, eq-eqb _ _ (c .before .if1 .left))
+    let o = n .before .before .before in
+    rw (o .old .given .1, n .new .given .1, eq-eqb _ _ (c .before .if1 .left))
 
 pub wait-after-spec : {M : Type 1} → statement M
 wait-after-spec =

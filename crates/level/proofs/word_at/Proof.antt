@@ -8,6 +8,7 @@ pub word-at-spec : {M : Type 1} → statement M
 word-at-spec =
     tie.close
     (tie.spec
-    (λ c κs. split-place (c .before .pre .0) (c .before .args .j) (omega arith))
-    (λ c κs. rw (c .column .ensures) (column-within (c .before .before .pre .0) (c .before .before .args .j) (omega arith), c .before .before .pre .1))
+    (λ c κs. split-place (c .before .pre .split) (c .before .args .j) (omega arith))
+    (λ c κs. let s = c .before .before in
+    rw (c .column .ensures) (column-within (s .pre .split) (s .args .j) (omega arith), s .pre .member))
     (λ c. rw (c .said .ensures, c .before .column .ensures)))

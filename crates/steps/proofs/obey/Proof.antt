@@ -20,7 +20,9 @@ sure c = rw (c .before .before .a .given .1, c .if1 .taken)
 
 not-sure : tie.Need-returns-2
 unfolding obeyed
-not-sure c = rw (c .before .before .before .a .given .1, c .before .if1 .left, c .count-or-0 .ensures)
+not-sure c =
+    let count = c .before .before .before in
+    rw (count .a .given .1, c .before .if1 .left, c .count-or-0 .ensures)
 
 none : tie.Need-returns-3
 none c =

@@ -18,7 +18,14 @@ first c = rw (ne-eqb _ _ (c .before .before .if1 .left), eq-eqb _ _ (c .before .
 second : tie.Need-returns-3
 unfolding threeSteps
 second c =
-    rw (ne-eqb _ _ (c .before .before .before .before .if1 .left), ne-eqb _ _ (c .before .before .before .if2 .left), ← (c .before .before .said .ensures), ← (c .before .read-vote .ensures))
+    let heard = c .before .before in
+    let not-first = heard .before in
+    rw (
+      ne-eqb _ _ (not-first .before .if1 .left),
+      ne-eqb _ _ (not-first .if2 .left),
+      ← (heard .said .ensures),
+      ← (c .before .read-vote .ensures),
+    )
     (c .step-2 .ensures)
 
 pub three-steps-spec : {M : Type 1} → statement M

@@ -1,4 +1,4 @@
-//! Refusals with another number of the paper.
+//! Refusals with another number of RULES 9.1.
 
 use second::refusal::Refusal;
 

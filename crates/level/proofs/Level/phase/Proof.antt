@@ -8,7 +8,9 @@ use Rattle.level.proofs.Level.phase.Statement.{statement}
 use Rattle.level.proofs.Level.phase.Tie as tie
 
 -- the half that the card is in
-half : (c : tie.Joined1) → c .if1 .half ≡ halfOf (c .before .before .before .before .args .g .n) (c .before .before .before .before .args .card)
+half : (c : tie.Joined1)
+    → let a = c .before .before .before .before .args in
+    c .if1 .half ≡ halfOf (a .g .n) (a .card)
 half c = ⊎-elim (λ w. rw (w .1, lt-ltb _ _ (w .0 .taken))) (λ w. rw (w .1, le-ltb _ _ (w .0 .left))) (c .if1 .came)
 
 returns : tie.Need-returns

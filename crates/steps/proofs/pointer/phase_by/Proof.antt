@@ -10,11 +10,15 @@ use Rattle.steps.proofs.pointer.phase_by.Tie as tie
 
 zeroth : tie.Need-returns
 unfolding pointer pointed
-zeroth c = rw (c .before .before .before .d .given .1, eq-eqb _ _ (c .before .if1 .taken), c .count-or-0 .ensures)
+zeroth c =
+    let count = c .before .before .before in
+    rw (count .d .given .1, eq-eqb _ _ (c .before .if1 .taken), c .count-or-0 .ensures)
 
 first : tie.Need-returns-2
 unfolding pointer pointed
-first c = rw (c .before .before .before .d .given .1, ne-eqb _ _ (c .before .if1 .left), c .count-or-02 .ensures)
+first c =
+    let count = c .before .before .before in
+    rw (count .d .given .1, ne-eqb _ _ (c .before .if1 .left), c .count-or-02 .ensures)
 
 none : tie.Need-returns-3
 unfolding pointer pointed countOr0

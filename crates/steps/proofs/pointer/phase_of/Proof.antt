@@ -9,26 +9,26 @@ use Rattle.steps.proofs.pointer.phase_of.Tie as tie
 zero-own : tie.Need-returns
 unfolding phase pointer orElse
 zero-own c =
-    let s = c .before .before .before .before in
-    rw (eq-eqb _ _ (c .before .before .before .if1 .taken), c .phase-by .ensures, ← (s .pre .0), c .before .enum-told .given .1)
+    let half = c .before .before .before in
+    rw (eq-eqb _ _ (half .if1 .taken), c .phase-by .ensures, ← (half .before .pre .is), c .before .enum-told .given .1)
 
 zero-other : tie.Need-returns-2
 unfolding phase pointer orElse
 zero-other c =
-    let s = c .before .before .before .before in
-    rw (eq-eqb _ _ (c .before .before .before .if1 .taken), c .phase-by2 .ensures, ← (s .pre .0), c .before .enum-told2 .given .1)
+    let half = c .before .before .before in
+    rw (eq-eqb _ _ (half .if1 .taken), c .phase-by2 .ensures, ← (half .before .pre .is), c .before .enum-told2 .given .1)
 
 one-own : tie.Need-returns-3
 unfolding phase pointer orElse
 one-own c =
-    let s = c .before .before .before .before in
-    rw (ne-eqb _ _ (c .before .before .before .if1 .left), c .phase-by3 .ensures, ← (s .pre .0), c .before .enum-told3 .given .1)
+    let half = c .before .before .before in
+    rw (ne-eqb _ _ (half .if1 .left), c .phase-by3 .ensures, ← (half .before .pre .is), c .before .enum-told3 .given .1)
 
 one-other : tie.Need-returns-4
 unfolding phase pointer orElse
 one-other c =
-    let s = c .before .before .before .before in
-    rw (ne-eqb _ _ (c .before .before .before .if1 .left), c .phase-by4 .ensures, ← (s .pre .0), c .before .enum-told4 .given .1)
+    let half = c .before .before .before in
+    rw (ne-eqb _ _ (half .if1 .left), c .phase-by4 .ensures, ← (half .before .pre .is), c .before .enum-told4 .given .1)
 
 pub phase-of-spec : {M : Type 1} → statement M
 phase-of-spec =

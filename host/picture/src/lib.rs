@@ -1,31 +1,40 @@
-//! The picture of a run and of what its agreement is for, as one SVG file.
+//! The picture of a run and of what its agreement is for, as one SVG file. The sound cards that are
+//! drawn go by the proved archive.
 
+#![forbid(unsafe_code)]
+
+mod archive;
+pub mod command;
 mod counts;
 mod lags;
 mod scale;
+pub mod stamps;
 mod strokes;
 mod svg;
+mod timeline;
 
-use crate::cooldown::RIGHT;
-use crate::picture::counts::Counts;
-use crate::picture::svg::{group, rect, Drawing, Element};
-use crate::plan::Plan;
-use crate::survey::Outcome;
+pub use archive::ARCHIVE;
+
+use simulate::cooldown::RIGHT;
+use simulate::plan::Plan;
+use simulate::survey::Outcome;
+
+use crate::counts::Counts;
+use crate::svg::{group, rect, Drawing, Element};
 
 const WIDTH: f64 = 900.0;
 const MARGIN: f64 = 20.0;
 
+/// How many beats beyond T(f) are drawn.
+pub const BEYOND: usize = 16;
+
 /// The run with this seed above the histograms of lags, which are the same for every seed.
 pub fn picture(seed: u64) -> String {
-    let run = Outcome::of(seed, RIGHT, 1);
-    let plan = Plan::of(seed);
+    let run = Outcome::counted_by(ARCHIVE, seed, RIGHT, 1);
+    let plan = Plan::of(seed).counted_by(ARCHIVE);
     let broken = plan.broken;
-    let shown = plan.shown(RIGHT, run.watched);
-    let counts = Counts {
-        run: &run,
-        broken,
-        shown: &shown,
-    };
+    let shown = plan.shown(RIGHT, run.bound + BEYOND);
+    let counts = Counts::new(run, broken, shown);
     let file = stacked(&counts.title(), vec![counts.draw(), lags::draw()]);
     format!("<?xml version=\"1.0\" encoding=\"UTF-8\"?>\n{file}")
 }
@@ -54,5 +63,6 @@ fn stacked(title: &str, parts: Vec<Drawing>) -> Element {
 }
 
 const DESCRIPTION: &str = "Above, beats across and a lane for each card with its count: the sound \
-    cards come to one count before T(f). Below, histograms of the lag between two cards: three \
-    teeth where the cards are a block apart in some runs, one tooth where they agree.";
+    cards, which go by the proved archive, come to one count before T(f). Below, histograms of the \
+    lag between two cards: on the left three teeth, put in by hand, as the cards are set a block \
+    apart in some runs; on the right the one tooth of cards that go by the proved archive.";

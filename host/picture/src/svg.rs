@@ -108,10 +108,10 @@ pub fn heading(text: impl Display) -> Element {
     heading.with("font-weight", "bold")
 }
 
-/// The lines of a text, each of at most so many characters.
+/// The lines of a text, each of at most so many characters. It is cut at plain spaces alone.
 pub fn wrapped(text: &str, longest: usize) -> Vec<String> {
     let mut lines: Vec<String> = Vec::new();
-    for word in text.split_whitespace() {
+    for word in text.split(' ') {
         match lines.last_mut() {
             Some(line) if line.chars().count() + 1 + word.chars().count() <= longest => {
                 line.push(' ');

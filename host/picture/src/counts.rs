@@ -1,12 +1,15 @@
 //! The counts of one run: beats across, a lane for each card.
 
-use second::beat::is_broken;
+use std::collections::BTreeSet;
 
-use crate::picture::scale::{horizontal, Scale};
-use crate::picture::strokes::strokes;
-use crate::picture::svg::{group, heading, label, line, rect, tenths, Drawing, Element};
-use crate::plan::Row;
-use crate::survey::Outcome;
+use second::beat::is_broken;
+use simulate::plan::Row;
+use simulate::survey::Outcome;
+
+use crate::scale::Scale;
+use crate::strokes::{gaps, strokes};
+use crate::svg::{group, heading, label, line, rect, tenths, Drawing, Element};
+use crate::timeline::Timeline;
 
 const LEFT: f64 = 120.0;
 const RIGHT: f64 = 880.0;
@@ -25,14 +28,37 @@ const COLOURS: [&str; 6] = [
 ];
 const GREY: &str = "#7d7d7d";
 
-/// A run, and what its cards show after each beat.
-pub struct Counts<'a> {
-    pub run: &'a Outcome,
-    pub broken: u32,
-    pub shown: &'a [Row],
+/// What makes the records of the sound cards.
+const PROGRAM: &str = "the proved archive, linked";
+
+/// A run, and what its cards show after each beat that is drawn.
+pub struct Counts {
+    run: Outcome,
+    broken: u32,
+    shown: Vec<Row>,
+    beats: Timeline,
 }
 
-impl Counts<'_> {
+impl Counts {
+    pub fn new(run: Outcome, broken: u32, mut shown: Vec<Row>) -> Counts {
+        let is_quiet = |row: &Row| {
+            let mut cards = row.iter().enumerate();
+            cards.all(|(card, counts)| counts.is_empty() || is_broken(broken, card))
+        };
+        let quiet: Vec<_> = shown.iter().map(is_quiet).collect();
+        let beats = Timeline::new(&quiet, LEFT, RIGHT);
+        let hidden = |beat: &usize| !beats.is_drawn(*beat);
+        for beat in (0..shown.len()).filter(hidden) {
+            shown[beat].fill(BTreeSet::new());
+        }
+        Counts {
+            run,
+            broken,
+            shown,
+            beats,
+        }
+    }
+
     pub fn title(&self) -> String {
         let (cards, broken) = (self.run.shape.n, self.broken.count_ones());
         format!("From any starting words to one count (cards: {cards}, broken: {broken})")
@@ -46,6 +72,7 @@ impl Counts<'_> {
             .child(self.ground(self.run.together_since, "#eaf6ee"))
             .child(self.ground(Some(self.run.bound), "#cfead8"))
             .children(lanes)
+            .children(self.beats.cuts(LANES, self.lanes_end()))
             .child(self.axis())
             .children(self.marks())
             .child(self.legend());
@@ -56,16 +83,8 @@ impl Counts<'_> {
     fn shape(&self) -> Element {
         let (shape, lies, seed) = (self.run.shape, self.run.lies, self.run.seed);
         let shape = format!("n = {}, f = {}, c = {}", shape.n, shape.f, shape.c);
-        label((20.0, 34.0), format!("{shape}, lies: {lies}, seed {seed}"))
-    }
-
-    fn beats(&self) -> Scale {
-        Scale {
-            low: 0.0,
-            high: (self.shown.len() - 1) as f64,
-            start: LEFT,
-            end: RIGHT,
-        }
+        let words = format!("{shape}, lies: {lies}, seed {seed}; the sound cards go by {PROGRAM}");
+        label((20.0, 34.0), words)
     }
 
     fn lanes_end(&self) -> f64 {
@@ -81,8 +100,7 @@ impl Counts<'_> {
 
     /// The ground of all beats from this one on.
     fn ground(&self, beat: Option<usize>, colour: &str) -> Element {
-        let beats = self.beats();
-        let x = beats.place(beat.map_or(beats.high, |beat| beat as f64));
+        let x = beat.map_or(RIGHT, |beat| self.beats.place(beat));
         rect((x, LANES), RIGHT - x, self.lanes_end() - LANES).with("fill", colour)
     }
 
@@ -105,6 +123,7 @@ impl Counts<'_> {
             .children(self.name(card, (top + base) / 2.0))
             .child(number(0.0))
             .child(number(last))
+            .child(self.gaps(card, base - 2.5))
             .child(self.path(card, counts))
     }
 
@@ -127,12 +146,13 @@ impl Counts<'_> {
     }
 
     fn path(&self, card: usize, counts: Scale) -> Element {
-        let beats = self.beats();
-        let strokes = strokes(self.shown, card).into_iter().map(|stroke| {
-            let (beat, count) = (stroke.beat as f64, f64::from(stroke.count));
-            let steps = [0.0, f64::from(stroke.steps)];
-            let [x, end_x] = steps.map(|steps| tenths(beats.place(beat + steps)));
-            let [y, end_y] = steps.map(|steps| tenths(counts.place(count + steps)));
+        let strokes = strokes(&self.shown, card).into_iter().map(|stroke| {
+            let [x, end_x] =
+                [0, stroke.steps].map(|steps| self.x(stroke.beat + usize::from(steps)));
+            let [y, end_y] = [0, stroke.steps].map(|steps| {
+                let count = f64::from(stroke.count) + f64::from(steps);
+                tenths(counts.place(count))
+            });
             format!("M{x} {y}L{end_x} {end_y}")
         });
         let path = Element::new("path").with("id", format!("card{card}"));
@@ -140,13 +160,23 @@ impl Counts<'_> {
         drawn(path, self.colour(card), is_broken(self.broken, card))
     }
 
+    /// A thin line below, where there is no count.
+    fn gaps(&self, card: usize, y: f64) -> Element {
+        let gaps = gaps(&self.shown, card, |beat| self.beats.is_drawn(beat));
+        let gaps = gaps.into_iter().map(|(first, last)| {
+            let [x, end] = [first, last].map(|beat| self.x(beat));
+            format!("M{x} {y}L{end} {y}")
+        });
+        thin(gaps.collect()).with("id", format!("none{card}"))
+    }
+
+    fn x(&self, beat: usize) -> f64 {
+        tenths(self.beats.place(beat))
+    }
+
     fn axis(&self) -> Element {
-        let beats = self.beats().ticks(12).into_iter();
-        let numbers: Vec<_> = beats.map(|beat| (beat as f64, beat.to_string())).collect();
         let name = label((RIGHT, self.lanes_end() + 40.0), "beat").with("text-anchor", "end");
-        group()
-            .child(horizontal(self.beats(), self.lanes_end(), &numbers).with("id", "beats"))
-            .child(name)
+        group().child(self.beats.axis(self.lanes_end())).child(name)
     }
 
     /// The marks of agreement and of T(f). T(f) is the later one: its words stand above where they
@@ -167,11 +197,11 @@ impl Counts<'_> {
     }
 
     fn has_words_left(&self, beat: usize) -> bool {
-        self.beats().place(beat as f64) > WORDS_WIDTH
+        self.beats.place(beat) > WORDS_WIDTH
     }
 
     fn mark(&self, id: &str, beat: usize, y: f64, words: String) -> Element {
-        let x = self.beats().place(beat as f64);
+        let x = self.beats.place(beat);
         let mark = line((x, y - 10.0), (x, self.lanes_end())).with("id", id);
         let words = match self.has_words_left(beat) {
             true => label((x - 6.0, y), words).with("text-anchor", "end"),
@@ -196,18 +226,23 @@ impl Counts<'_> {
                 (LEFT + 232.0, y),
                 "broken: all counts told to sound cards",
             ))
-            .child(label((LEFT + 530.0, y), "nothing drawn: no count"))
+            .child(thin(format!("M{} {y}L{} {y}", LEFT + 530.0, LEFT + 554.0)))
+            .child(label((LEFT + 562.0, y), "no count"))
     }
 }
 
 /// A card's path: strong where the card is sound, grey and dotted where it is broken.
 fn drawn(path: Element, colour: &str, is_broken: bool) -> Element {
     let path = path.with("fill", "none").with("stroke", colour);
-    let path = path
-        .with("stroke-width", 2.4)
-        .with("stroke-linecap", "round");
+    let path = path.with("stroke-width", 3).with("stroke-linecap", "round");
     match is_broken {
-        true => path.with("stroke-dasharray", "0.1 4"),
+        true => path.with("stroke-dasharray", "0.1 5"),
         false => path,
     }
+}
+
+fn thin(strokes: String) -> Element {
+    let path = Element::new("path").with("d", strokes).with("fill", "none");
+    let path = path.with("stroke", "#b0b0b0").with("stroke-width", 1.6);
+    path.with("stroke-linecap", "round")
 }

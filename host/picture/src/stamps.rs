@@ -4,11 +4,10 @@
 
 use generate::{Random, Shape};
 use second::beat::is_broken;
-use second::lag::lag;
-
-use crate::cooldown::RIGHT;
-use crate::level::stepped;
-use crate::plan::{Lies, Plan};
+use simulate::cooldown::RIGHT;
+use simulate::counter::Counter;
+use simulate::level::stepped;
+use simulate::plan::{Lies, Plan};
 
 /// The ticks of time in a block, which is from one beat to the next.
 pub const BLOCK: i32 = 1_000;
@@ -19,27 +18,30 @@ pub const RUNS: u64 = 64;
 const BLOCKS: usize = 40;
 const EVENTS_IN_BLOCK: usize = 4;
 
-/// The lag of each event in ticks, where in each run the second card's count is moved by so many
-/// blocks.
-pub fn lags(moved_in: fn(u64) -> i32) -> Vec<i32> {
-    let lags_of = |run| {
-        let [one, other] = counts_of_two(run);
-        let other = other
-            .iter()
-            .map(|&count| stepped(count, SHAPE.c as u16, moved_in(run)));
-        lags_in_run(run, [&one, &other.collect::<Vec<_>>()])
-    };
-    (0..RUNS).flat_map(lags_of).collect()
+/// The counts of the first two sound cards of each run, which go by this program.
+pub fn runs(counter: Counter) -> Vec<[Vec<u16>; 2]> {
+    (0..RUNS).map(|run| counts_of_two(counter, run)).collect()
 }
 
-/// The bought routine's fault, put in by hand: in every second run the cards are a block apart.
+/// The lag of each event in ticks, where in each run the second card's count is moved by so many
+/// blocks.
+pub fn lags(counter: Counter, runs: &[[Vec<u16>; 2]], moved_in: fn(u64) -> i32) -> Vec<i32> {
+    let lags_of = |(run, [one, other]): (u64, &[Vec<u16>; 2])| {
+        let moved = |&count| stepped(count, SHAPE.c as u16, moved_in(run));
+        let other: Vec<_> = other.iter().map(moved).collect();
+        lags_in_run(counter, run, [one, &other])
+    };
+    (0..).zip(runs).flat_map(lags_of).collect()
+}
+
+/// The comb, put in by hand: in every second run the cards are a block apart.
 pub fn block_apart(run: u64) -> i32 {
     [0, 1, 0, -1][(run % 4) as usize]
 }
 
 /// The counts of the first two sound cards from T(f) on.
-fn counts_of_two(run: u64) -> [Vec<u16>; 2] {
-    let plan = Plan::new(SHAPE, Lies::Directed, Random::new(run));
+fn counts_of_two(counter: Counter, run: u64) -> [Vec<u16>; 2] {
+    let plan = Plan::new(SHAPE, Lies::Directed, Random::new(run)).counted_by(counter);
     let (settled, broken) = (plan.bound(), plan.broken);
     let shown = plan.shown(RIGHT, settled + BLOCKS + 1);
     let mut sound = (0..SHAPE.n as usize).filter(|&card| !is_broken(broken, card));
@@ -52,7 +54,7 @@ fn counts_of_two(run: u64) -> [Vec<u16>; 2] {
     })
 }
 
-fn lags_in_run(run: u64, counts: [&[u16]; 2]) -> Vec<i32> {
+fn lags_in_run(counter: Counter, run: u64, counts: [&[u16]; 2]) -> Vec<i32> {
     let mut random = Random::new(run);
     let mut lags = Vec::new();
     for event in 0..BLOCKS * EVENTS_IN_BLOCK {
@@ -60,9 +62,9 @@ fn lags_in_run(run: u64, counts: [&[u16]; 2]) -> Vec<i32> {
         let time = BLOCK * block as i32 + random.below(BLOCK as usize) as i32;
         let [one, other] = counts.map(|counts| {
             let time = time + jitter(&mut random);
-            (u32::from(counts[(time / BLOCK) as usize]), time % BLOCK)
+            (counts[(time / BLOCK) as usize], time % BLOCK)
         });
-        let blocks = lag(SHAPE.c, one.0, other.0).expect("counts are below the modulus");
+        let blocks = (counter.lag)(SHAPE, one.0, other.0);
         lags.push(BLOCK * blocks + one.1 - other.1);
     }
     lags

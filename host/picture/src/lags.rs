@@ -2,9 +2,10 @@
 
 use generate::Shape;
 
-use crate::picture::scale::{horizontal, Scale};
-use crate::picture::svg::{group, heading, label, line, rect, wrapped, Drawing, Element};
-use crate::stamps::{block_apart, lags, BLOCK, RUNS, SHAPE};
+use crate::archive::ARCHIVE;
+use crate::scale::{horizontal, Scale};
+use crate::stamps::{block_apart, lags, runs, BLOCK, RUNS, SHAPE};
+use crate::svg::{group, heading, label, line, rect, wrapped, Drawing, Element};
 
 /// The bins are centred on whole multiples of their width, and reach a block and a half each way.
 const BIN: i32 = 25;
@@ -28,20 +29,21 @@ fn histogram(lags: &[i32]) -> Vec<usize> {
 
 /// Both histograms on one scale, and below them how they were made.
 pub fn draw() -> Drawing {
-    let bought = histogram(&lags(block_apart));
-    let ours = histogram(&lags(|_| 0));
-    let highest = bought.iter().chain(&ours).copied().max().unwrap_or(0);
+    let runs = runs(ARCHIVE);
+    let apart = histogram(&lags(ARCHIVE, &runs, block_apart));
+    let as_they_are = histogram(&lags(ARCHIVE, &runs, |_| 0));
+    let highest = apart.iter().chain(&as_they_are).copied().max().unwrap_or(0);
     let comb = Panel {
         left: 64.0,
         highest,
         colour: "#c44e1c",
-        title: "Cards a block apart (bought routine): a comb",
+        title: "A comb put in by hand: cards set a block apart",
     };
     let no_comb = Panel {
         left: 512.0,
         highest,
         colour: "#0072b2",
-        title: "This counter: no comb",
+        title: "No comb: counts of the proved archive, linked",
     };
     let caption = wrapped(&caption(), 118);
     let lines = caption.iter().zip(0..);
@@ -50,8 +52,8 @@ pub fn draw() -> Drawing {
         .child(heading(
             "The lag between two cards' stamps of the same event",
         ))
-        .child(comb.draw(&bought).with("id", "comb"))
-        .child(no_comb.draw(&ours).with("id", "nocomb"))
+        .child(comb.draw(&apart).with("id", "comb"))
+        .child(no_comb.draw(&as_they_are).with("id", "nocomb"))
         .children(lines);
     let height = CAPTION + LINE * caption.len() as f64;
     Drawing { body, height }
@@ -76,7 +78,7 @@ impl Panel {
         }));
         let title = label((self.left + WIDTH / 2.0, TOP - 10.0), self.title);
         group()
-            .child(title.with("text-anchor", "middle").with("font-size", 14))
+            .child(title.with("text-anchor", "middle").with("font-size", 13))
             .child(self.events_axis())
             .child(bars)
             .child(self.lags_axis())
@@ -127,11 +129,12 @@ impl Panel {
 fn caption() -> String {
     let Shape { n, f, c } = SHAPE;
     format!(
-        "Simulated. In each of {RUNS} runs from any starting words with a lying card (n = {n}, \
-         f = {f}, c = {c}) two sound cards stamp the same events from T(f) on: each with its count, \
-         with the time within the block, and with jitter of its own. The lag of an event is the lag \
-         of the two counts, in blocks, plus the difference of the two times. Right: the counts as \
-         they are. Left, the bought routine's fault put in by hand: the same events and the same \
-         jitter, but in every second run the second card's count is one block ahead or behind."
+        "Simulated by a program that links the proved archive: the archive's step makes every next record \
+         of a sound card, and the archive's lag is the lag of two counts. In each of {RUNS} runs from any \
+         starting words with a lying card (n\u{a0}=\u{a0}{n}, f\u{a0}=\u{a0}{f}, c\u{a0}=\u{a0}{c}) two sound cards stamp the same \
+         events from T(f) on: each with its count, with the time within the block, and with jitter of \
+         its own. The lag of an event is the lag of the two counts, in blocks, plus the difference of \
+         the two times. Right: the counts as they are. Left: the same events and the same jitter, but in \
+         every second run the second card's count is set one block ahead or behind by hand."
     )
 }

@@ -1,6 +1,6 @@
 //! A card's counts as strokes.
 
-use crate::plan::Row;
+use simulate::plan::Row;
 
 /// A stretch in which a count goes on by one: from where, and for how many beats more.
 pub struct Stroke {
@@ -27,4 +27,18 @@ pub fn strokes(shown: &[Row], card: usize) -> Vec<Stroke> {
         }
     }
     strokes
+}
+
+/// The first and the last beat of each stretch in which a card shows no count, among the beats that
+/// are drawn.
+pub fn gaps(shown: &[Row], card: usize, is_drawn: impl Fn(usize) -> bool) -> Vec<(usize, usize)> {
+    let mut gaps: Vec<(usize, usize)> = Vec::new();
+    let empty = |beat: &usize| is_drawn(*beat) && shown[*beat][card].is_empty();
+    for beat in (0..shown.len()).filter(empty) {
+        match gaps.last_mut() {
+            Some((_, last)) if *last + 1 == beat => *last = beat,
+            _ => gaps.push((beat, beat)),
+        }
+    }
+    gaps
 }

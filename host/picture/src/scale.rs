@@ -1,6 +1,6 @@
 //! From numbers to places, and the numbers that an axis shows.
 
-use crate::picture::svg::{group, label, line, Element};
+use crate::svg::{group, label, line, Element};
 
 /// The numbers from `low` to `high` laid out between two places.
 #[derive(Clone, Copy)]
@@ -17,14 +17,22 @@ impl Scale {
         self.start + part * (self.end - self.start)
     }
 
-    /// From 0 in steps of 1, 2 or 5 times a power of ten, such that there are at most so many.
+    pub fn has(self, number: f64) -> bool {
+        self.low <= number && number <= self.high
+    }
+
+    /// From 0 in round steps, such that there are at most so many.
     pub fn ticks(self, most: usize) -> Vec<usize> {
         let high = self.high as usize;
-        let powers = (0..).map(|power| 10_usize.pow(power));
-        let mut steps = powers.flat_map(|power| [1, 2, 5].map(|digit| digit * power));
-        let step = steps.find(|step| high / step < most);
-        (0..=high).step_by(step.expect("steps grow")).collect()
+        (0..=high).step_by(round_step(high, most)).collect()
     }
+}
+
+/// The least step of 1, 2 or 5 times a power of ten that goes fewer than so many times into a length.
+pub fn round_step(length: usize, most: usize) -> usize {
+    let powers = (0..).map(|power| 10_usize.pow(power));
+    let mut steps = powers.flat_map(|power| [1, 2, 5].map(|digit| digit * power));
+    steps.find(|step| length / step < most).expect("steps grow")
 }
 
 /// A horizontal axis at a height, with these numbers below it.

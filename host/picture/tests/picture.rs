@@ -6,22 +6,35 @@ use std::collections::{BTreeMap, BTreeSet};
 use std::env;
 use std::fs;
 use std::path::Path;
+use std::sync::Mutex;
 
+use picture::command::DRAWN;
+use picture::stamps::{block_apart, lags, runs, BLOCK};
+use picture::{picture, ARCHIVE, BEYOND};
 use second::beat::is_broken;
 use second::params;
-use simulate::command::DRAWN;
 use simulate::cooldown::RIGHT;
-use simulate::picture::picture;
+use simulate::counter::SECOND;
 use simulate::plan::Plan;
-use simulate::stamps::{block_apart, lags, BLOCK};
 use simulate::survey::Outcome;
 use xml::{parse, Node};
 
 /// Runs of few and of many cards, with small and large moduli, with and without broken cards.
 const SEEDS: [u64; 6] = [DRAWN, 0, 2, 20, 1_732, 1_840];
 
+/// The picture of a seed, which is drawn once for all tests.
+fn drawn(seed: u64) -> String {
+    static PICTURES: Mutex<Vec<(u64, String)>> = Mutex::new(Vec::new());
+    let mut pictures = PICTURES.lock().expect("no test has failed meanwhile");
+    if let Some((_, picture)) = pictures.iter().find(|(of, _)| *of == seed) {
+        return picture.clone();
+    }
+    pictures.push((seed, picture(seed)));
+    pictures[pictures.len() - 1].1.clone()
+}
+
 fn read(seed: u64) -> Node {
-    parse(&picture(seed)).expect("the picture is well formed")
+    parse(&drawn(seed)).expect("the picture is well formed")
 }
 
 #[test]
@@ -194,8 +207,86 @@ fn labels(node: &Node, place: impl Fn(&Node) -> f64) -> Vec<(f64, f64)> {
     texts.filter_map(number).collect()
 }
 
-fn beats(svg: &Node) -> Axis {
-    Axis::new(&labels(svg.with_id("beats"), |text| text.number("x")))
+/// The beats across: an axis for each stretch between two cuts, with the places where it begins and ends.
+struct Beats {
+    stretches: Vec<([f64; 2], Axis)>,
+}
+
+impl Beats {
+    fn new(svg: &Node) -> Beats {
+        let (edges, labels) = (
+            edges(svg),
+            labels(svg.with_id("beats"), |text| text.number("x")),
+        );
+        let within = |[left, right]: [f64; 2]| {
+            let labels = labels.iter().copied();
+            let labels: Vec<_> = labels.filter(|(_, x)| (left..=right).contains(x)).collect();
+            labels
+        };
+        let longest = edges.iter().map(|&ends| within(ends)).max_by_key(Vec::len);
+        let whole = Axis::new(&longest.expect("there is an axis"));
+        let stretches = edges.iter().map(|&ends| {
+            let (number, place) = within(ends)[0];
+            // All stretches have one scale.
+            let next =
+                place + (whole.places[1] - whole.places[0]) / (whole.numbers[1] - whole.numbers[0]);
+            (ends, Axis::new(&[(number, place), (number + 1.0, next)]))
+        });
+        Beats {
+            stretches: stretches.collect(),
+        }
+    }
+
+    fn whole(&self, place: f64) -> usize {
+        let mut stretches = self.stretches.iter();
+        let found =
+            stretches.find(|([left, right], _)| (left - 0.1..=right + 0.1).contains(&place));
+        let (_, axis) = found.unwrap_or_else(|| panic!("{place} lies in a cut"));
+        axis.whole(place)
+    }
+
+    /// The first and the last beat of each stretch.
+    fn ends(&self) -> Vec<[usize; 2]> {
+        let stretches = self.stretches.iter();
+        stretches
+            .map(|(ends, axis)| ends.map(|end| axis.whole(end)))
+            .collect()
+    }
+
+    fn is_drawn(&self, beat: usize) -> bool {
+        self.ends()
+            .iter()
+            .any(|[first, last]| (*first..=*last).contains(&beat))
+    }
+}
+
+/// Where each stretch of beats begins and ends: where the lines of the axis do.
+fn edges(svg: &Node) -> Vec<[f64; 2]> {
+    let lines = svg.with_id("beats").named("line").into_iter();
+    let level = lines.filter(|line| line.number("y1") == line.number("y2"));
+    level
+        .map(|line| ["x1", "x2"].map(|end| line.number(end)))
+        .collect()
+}
+
+/// The ends of each stroke of a path.
+fn strokes(svg: &Node, id: &str) -> Vec<[(f64, f64); 2]> {
+    let strokes = svg
+        .with_id(id)
+        .attribute("d")
+        .expect("a path")
+        .split('M')
+        .skip(1);
+    let end = |end: &str| {
+        let (x, y) = end.split_once(' ').expect("two numbers");
+        let [x, y] = [x, y].map(|place| place.parse().expect("a number"));
+        (x, y)
+    };
+    let ends = |stroke: &str| {
+        let (from, to) = stroke.split_once('L').expect("two ends");
+        [from, to].map(end)
+    };
+    strokes.map(ends).collect()
 }
 
 /// The beat and the counts of each point that a card's line goes through.
@@ -209,53 +300,106 @@ fn drawn_counts(svg: &Node, card: usize) -> BTreeMap<usize, BTreeSet<usize>> {
     let counts = Axis::new(&labels(lane.expect("a lane"), |text| {
         text.number("y") - 3.5
     }));
-    let beats = beats(svg);
+    let beats = Beats::new(svg);
     let mut drawn: BTreeMap<_, BTreeSet<_>> = BTreeMap::new();
-    let strokes = svg.with_id(&id).attribute("d").expect("a path");
-    for stroke in strokes.split('M').skip(1) {
-        let ends: Vec<_> = stroke.split('L').collect();
-        let [from, to] = [ends[0], ends[1]].map(|end| {
-            let (x, y) = end.split_once(' ').expect("two numbers");
-            let [x, y]: [f64; 2] = [x, y].map(|place| place.parse().expect("a number"));
-            (beats.whole(x), counts.whole(y))
-        });
+    for ends in strokes(svg, &id) {
+        let [from, to] = ends.map(|(x, y)| (beats.whole(x), counts.whole(y)));
         assert_eq!(to.0 - from.0, to.1 - from.1, "a stroke goes on by one");
         for step in 0..=to.0 - from.0 {
-            drawn
-                .entry(from.0 + step)
-                .or_default()
-                .insert(from.1 + step);
+            let counts = drawn.entry(from.0 + step).or_default();
+            counts.insert(from.1 + step);
         }
     }
     drawn
 }
 
+/// The beats on which a card is drawn to have no count.
+fn drawn_without(svg: &Node, card: usize) -> BTreeSet<usize> {
+    let beats = Beats::new(svg);
+    let strokes = strokes(svg, &format!("none{card}")).into_iter();
+    strokes
+        .flat_map(|[(from, _), (to, _)]| beats.whole(from)..=beats.whole(to))
+        .collect()
+}
+
+/// The second implementation goes through the same run: what it shows is what is drawn.
 #[test]
 fn the_lines_are_the_counts_of_the_run() {
-    for seed in [DRAWN, 212] {
+    for seed in [DRAWN, 212, 1_634, 5_932] {
         let (svg, plan) = (read(seed), Plan::of(seed));
-        let cards = plan.shape.n as usize;
-        let paths = svg.named("path").into_iter();
-        let lines = paths.filter(|path| path.attribute("id").is_some());
-        assert_eq!(lines.count(), cards);
-
-        let shown = plan.shown(RIGHT, Outcome::of(seed, RIGHT, 1).watched);
+        let (cards, bound, beats) = (plan.shape.n as usize, plan.bound(), Beats::new(&svg));
+        let shown = plan.shown(RIGHT, bound + BEYOND);
         for card in 0..cards {
             let counts = shown.iter().map(|row| &row[card]).enumerate();
-            let counts = counts.filter(|(_, counts)| !counts.is_empty());
-            let counts = counts.map(|(beat, counts)| {
-                (
-                    beat,
-                    counts.iter().map(|&count| usize::from(count)).collect(),
-                )
-            });
+            let counts = counts.filter(|(beat, _)| beats.is_drawn(*beat));
+            let (without, counts): (Vec<_>, Vec<_>) =
+                counts.partition(|(_, counts)| counts.is_empty());
+            let wide = |counts: &BTreeSet<u16>| counts.iter().map(|&count| count.into()).collect();
+            let counts = counts
+                .into_iter()
+                .map(|(beat, counts)| (beat, wide(counts)));
             assert_eq!(drawn_counts(&svg, card), counts.collect(), "card {card}");
+            let without = without.into_iter().map(|(beat, _)| beat);
+            assert_eq!(drawn_without(&svg, card), without.collect(), "card {card}");
+        }
+    }
+}
+
+#[test]
+fn what_is_cut_has_no_count_of_a_sound_card() {
+    let mut cuts = 0;
+    for seed in [DRAWN, 212, 1_634, 5_932] {
+        let (svg, plan) = (read(seed), Plan::of(seed));
+        let (broken, bound) = (plan.broken, plan.bound());
+        let shown = plan.shown(RIGHT, bound + BEYOND);
+        let ends = Beats::new(&svg).ends();
+        assert_eq!((ends[0][0], ends[ends.len() - 1][1]), (0, bound + BEYOND));
+        for (number, pair) in ends.windows(2).enumerate() {
+            let hidden = pair[0][1] + 1..pair[1][0];
+            let said = format!("{} beats", hidden.len());
+            assert!(
+                svg.named("text").iter().any(|text| text.text == said),
+                "{said}"
+            );
+            assert!(svg.with_id(&format!("cut{number}")).number("width") > 0.0);
+            for row in &shown[hidden] {
+                let sound = row
+                    .iter()
+                    .enumerate()
+                    .filter(|(card, _)| !is_broken(broken, *card));
+                assert!(sound.into_iter().all(|(_, counts)| counts.is_empty()));
+            }
+            cuts += 1;
+        }
+    }
+    assert!(cuts > 0);
+}
+
+/// Nowhere for more than a quarter of the width is there no count of a sound card.
+#[test]
+fn no_wide_stretch_of_the_run_is_blank() {
+    for seed in SEEDS.into_iter().chain([212, 406, 5_932]) {
+        let (svg, plan) = (read(seed), Plan::of(seed));
+        let edges = edges(&svg);
+        let (left, right) = (edges[0][0], edges[edges.len() - 1][1]);
+        let sound = (0..plan.shape.n as usize).filter(|&card| !is_broken(plan.broken, card));
+        let lines = sound.flat_map(|card| strokes(&svg, &format!("card{card}")));
+        let mut lines: Vec<_> = lines.map(|[(from, _), (to, _)]| [from, to]).collect();
+        lines.push([right, right]);
+        lines.sort_by(|one, other| one[0].total_cmp(&other[0]));
+        let mut reached = left;
+        for [from, to] in lines {
+            assert!(
+                from - reached <= (right - left) / 4.0,
+                "seed {seed}: {reached} to {from}"
+            );
+            reached = to.max(reached);
         }
     }
 }
 
 /// The beat since when the drawn lines of all sound cards go on together to the last beat.
-fn together_since(svg: &Node, plan: &Plan, last: usize) -> usize {
+fn together_since(svg: &Node, plan: &Plan) -> usize {
     let (cards, modulus) = (plan.shape.n as usize, plan.shape.c as usize);
     let sound = (0..cards).filter(|&card| !is_broken(plan.broken, card));
     let lines: Vec<_> = sound.map(|card| drawn_counts(svg, card)).collect();
@@ -264,7 +408,7 @@ fn together_since(svg: &Node, plan: &Plan, last: usize) -> usize {
         let alike = lines.iter().all(|line| line.get(&beat) == Some(first));
         first.iter().next().copied().filter(|_| alike)
     };
-    let mut since = last;
+    let mut since = plan.bound() + BEYOND;
     while since > 0 && common(since - 1).map(|now| (now + 1) % modulus) == common(since) {
         since -= 1;
     }
@@ -279,13 +423,33 @@ fn the_marks_stand_at_the_beats_of_the_run() {
         let mark = |id| {
             let mark = svg.with_id(id);
             assert_eq!(mark.number("x1"), mark.number("x2"));
-            beats(&svg).whole(mark.number("x1"))
+            Beats::new(&svg).whole(mark.number("x1"))
         };
         assert_eq!(Some(mark("agreement")), run.together_since);
-        assert_eq!(mark("agreement"), together_since(&svg, &plan, run.watched));
+        assert_eq!(mark("agreement"), together_since(&svg, &plan));
         assert_eq!(mark("bound"), params::settled(plan.shape.f as usize));
         assert_ne!(mark("agreement"), mark("bound"));
     }
+}
+
+/// The texts of a part in one.
+fn words(node: &Node) -> String {
+    let texts = node.named("text").into_iter();
+    texts
+        .map(|text| text.text.as_str())
+        .collect::<Vec<_>>()
+        .join(" ")
+}
+
+#[test]
+fn it_says_what_is_put_in_by_hand_and_what_comes_from_the_archive() {
+    let svg = read(DRAWN);
+    let [comb, no_comb] = ["comb", "nocomb"].map(|id| words(svg.with_id(id)));
+    assert!(comb.contains("A comb put in by hand: cards set a block apart"));
+    assert!(!comb.contains("archive"));
+    assert!(no_comb.contains("No comb: counts of the proved archive, linked"));
+    assert!(words(&svg).contains("the sound cards go by the proved archive, linked"));
+    assert!(!drawn(DRAWN).contains("bought"));
 }
 
 /// The drawn bins of a histogram: the middle of each in blocks, and its events.
@@ -327,16 +491,20 @@ fn a_block_apart_makes_a_comb_and_agreement_none() {
     assert_eq!(teeth(&drawn_bins(&svg, "nocomb")), 1);
 
     let in_main_tooth = |lags: &[i32]| lags.iter().filter(|lag| lag.abs() < BLOCK / 2).count();
-    let (comb, no_comb) = (lags(block_apart), lags(|_| 0));
+    let runs = runs(ARCHIVE);
+    let [comb, no_comb] = [block_apart, |_| 0].map(|moved_in| lags(ARCHIVE, &runs, moved_in));
     assert_eq!(in_main_tooth(&no_comb), no_comb.len());
     assert_eq!(2 * in_main_tooth(&comb), comb.len());
 }
 
+/// By the second implementation the same events have the same lags.
 #[test]
 fn the_bars_are_the_lags() {
     const WIDTH: i32 = 25;
     let svg = read(DRAWN);
-    for (id, lags) in [("comb", lags(block_apart)), ("nocomb", lags(|_| 0))] {
+    let runs = runs(SECOND);
+    for (id, moved_in) in [("comb", block_apart as fn(u64) -> i32), ("nocomb", |_| 0)] {
+        let lags = lags(SECOND, &runs, moved_in);
         let mut seen = 0;
         for (blocks, events) in drawn_bins(&svg, id) {
             let bin = blocks * f64::from(BLOCK / WIDTH);
@@ -359,8 +527,8 @@ fn the_bars_are_the_lags() {
 
 #[test]
 fn a_seed_gives_one_picture() {
-    assert!(picture(3) == picture(3));
-    assert!(picture(3) != picture(4));
+    assert!(picture(406) == picture(406));
+    assert!(drawn(406) != drawn(DRAWN));
 }
 
 #[test]
@@ -369,7 +537,7 @@ fn the_picture_in_the_documents_is_the_one_drawn() {
     let path = Path::new(&package).join("../../docs/counts.svg");
     let kept = fs::read_to_string(path).expect("docs/counts.svg can be read");
     assert!(
-        kept == picture(DRAWN),
+        kept == drawn(DRAWN),
         "./tsendurkho simulate --svg docs/counts.svg"
     );
 }

@@ -1,0 +1,36 @@
+//! What the program does with its arguments.
+
+use std::fs;
+
+use simulate::command::USAGE;
+use simulate::cooldown::RIGHT;
+use simulate::report::line;
+use simulate::survey::Outcome;
+
+use crate::archive::ARCHIVE;
+use crate::picture;
+
+/// The run that is drawn where none is asked for: the cards show different counts, and agree late.
+pub const DRAWN: u64 = 1_123;
+
+/// Why nothing was drawn, in words for standard error.
+#[derive(Debug, PartialEq, Eq)]
+pub enum Failure {
+    WrongUse(String),
+    NotWritten(String),
+}
+
+/// Draws a run into a file, and says how it went in one line.
+pub fn answer(arguments: &[&str]) -> Result<String, Failure> {
+    let wanted = match *arguments {
+        ["--svg", file] => Some((file, DRAWN)),
+        ["--svg", file, "--seed", seed] => seed.parse().ok().map(|seed| (file, seed)),
+        _ => None,
+    };
+    let (file, seed) = wanted.ok_or_else(|| Failure::WrongUse(USAGE.to_string()))?;
+    let failed =
+        |error| Failure::NotWritten(format!("simulate: {file} cannot be written: {error}\n"));
+    fs::write(file, picture(seed)).map_err(failed)?;
+    let run = Outcome::counted_by(ARCHIVE, seed, RIGHT, 1);
+    Ok(format!("{}\n", line(&run)))
+}
