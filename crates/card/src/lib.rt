@@ -62,7 +62,8 @@ pub fn put_next(n: u32, f: u32, c: u32, card: u32, records: &[u16], out: &mut [u
 
 // One card's step.
 pub fn step(n: u32, f: u32, c: u32, card: u32, records: &[u16], out: &mut [u16]) -> u32
-    ensures { λ r. ⌜ (r ≡ stepRefusal n f c card (length (now (records .entry))) (length (now (out .entry)))) × (now (out .exit) ≡ stepOut n f c card (now (records .entry)) (now (out .entry))) ⌝ }
+    ensures { λ r. ⌜ (r ≡ stepRefusal n f c card (length (now (records .entry))) (length (now (out .entry))))
+        × (now (out .exit) ≡ stepOut n f c card (now (records .entry)) (now (out .entry))) ⌝ }
 {
     let refusal = step_refusal(n, f, c, card, WORDS, records.len(), out.len());
     if refusal != 0 {

@@ -14,6 +14,7 @@ use lib.Seq.{take-suc, drop-cons, getD-drop, getD-at}
 use Rattle.rules.specs.Counting.{rows}
 use Rattle.rules.specs.Text.{digitOf, isDigit, valueOf, hexOf, numberAt, allDigits, wellFormed}
 use Rattle.rules.proofs.Tests.{le-or-lt, and-left, and-right, and-both}
+use Rattle.digits.specs.Readable.{Readable}
 use Rattle.rules.proofs.Lists.{before-seam, rows-same, tabulate-length, tabulate-at}
 
 -- a value below 16 is that of its digit
@@ -97,6 +98,11 @@ pub formed : (size : ℕ) (text : List ℕ) → wellFormed size text ≡ true �
 unfolding wellFormed
 formed size text e =
     (eqb-true (length text) size (and-left (eqb (length text) size) (allDigits text) e), and-right (eqb (length text) size) (allDigits text) e)
+
+pub readable : (size : ℕ) (text : List ℕ) → wellFormed size text ≡ true → (at digits : ℕ) → at + digits ≤ size → Readable text at digits
+readable size text e at digits l =
+    let t = formed size text e in
+    record { digits-alone = t .1; inside = omega arith }
 
 -- the last digit of a number, and the digits of the rest
 pub hex-last : (k x : ℕ) → hexOf (suc k) x ≡ hexOf k (x / 16) ++ (digitOf (x % 16) ∷ [])

@@ -9,6 +9,7 @@ use lib.Seq.{length-take-le}
 use Rattle.rules.specs.Parameters.{recordWords}
 use Rattle.rules.specs.Refusals.{stepRefusal, stepBytesRefusal}
 use Rattle.rules.proofs.Records.{words-most}
+use Rattle.tsendurkho.specs.Buffers.{StepBuffers}
 use Rattle.tsendurkho.proofs.Accepted.{StepBytes, accepted}
 
 -- the front of an array of zeros, with a word for two bytes
@@ -50,3 +51,8 @@ buffers n f c card size records out z room =
     let t : length (front size records) ≡ n * recordWords f = omega (arith, table .whole, s .records-whole) in
     let w : length (front 25 out) ≡ recordWords f = omega (arith, next .whole, s .out-whole) in
     record { table = table; next = next; accepts = rw (t, w) (s .on-words) }
+
+pub on-words : {n f c card size : ℕ} (records out : List ℕ) → Buffers n f c card size (length records) (length out)
+    → StepBuffers n f c card records out (front size (length records)) (front 25 (length out))
+on-words records out b =
+    record { heard-whole = b .table .whole; next-whole = b .next .whole; accepted = b .accepts; zeros = b .next .zeros }

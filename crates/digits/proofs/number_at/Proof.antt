@@ -25,7 +25,7 @@ below : (c : tie.In-loop Inv-loop μ-loop)
 below c =
     let a = c .before .before .before .args in
     let i = c .before .loop .i in
-    omega (arith, number-more (a .text .now) (a .at) i, number-within (a .text .now) (a .at) (i + 1) 8 (c .before .before .before .pre .0) (omega arith) (omega arith))
+    omega (arith, number-more (a .text .now) (a .at) i, number-within (a .text .now) (a .at) (i + 1) 8 (c .before .before .before .pre .0 .digits-alone) (omega arith) (omega arith))
 
 loop-again : tie.Need-loop-again Inv-loop μ-loop
 loop-again c =
@@ -48,7 +48,7 @@ number-at-spec =
     (λ c. omega (arith, below c))
     (λ c. search needs)
     (λ c. search needs)
-    (λ c κs. digit-at _ (c .before .before .before .before .pre .0) _ (omega arith))
+    (λ c κs. digit-at _ (c .before .before .before .before .pre .0 .digits-alone) _ (omega arith))
     (λ c. omega (arith, below (c .before .before)))
     (λ c. search needs)
     (λ c. search needs)

@@ -38,7 +38,12 @@ put-record-requires : tie.Need-put-record-requires Inv-loop μ-loop
 put-record-requires c κs =
     let l = c .before .before .before in
     let s = l .before .before .before .before .before .before .before .before .before in
-    (rw (← (l .loop .inv .2)) at (s .pre .0), omega arith, l .loop .inv .1, l .loop .inv .3)
+    record {
+      accepted = rw (← (l .loop .inv .2)) at (s .pre .0);
+      card-below = omega arith;
+      heard-whole = l .loop .inv .1;
+      sound = l .loop .inv .3;
+    }
 
 loop-again : tie.Need-loop-again Inv-loop μ-loop
 loop-again c =

@@ -47,13 +47,13 @@ take-start-requires : tie.Need-take-start-requires
 unfolding keptTests
 take-start-requires c κs =
     let k = c .before .before .before in
-    (rw (k .stage .given .1) at (none (k .before .before)), search needs)
+    record { passes = rw (k .stage .given .1) at (none (k .before .before)); room = search needs }
 
 take-beat-requires : tie.Need-take-beat-requires
 unfolding keptTests
 take-beat-requires c κs =
     let k = c .before .before .before in
-    (rw (k .stage2 .given .1) at (none (k .before .before)), search needs)
+    record { passes = rw (k .stage2 .given .1) at (none (k .before .before)); room = search needs }
 
 pub line-taken-spec : {M : Type 1} → statement M
 line-taken-spec =

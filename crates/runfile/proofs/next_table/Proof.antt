@@ -13,7 +13,7 @@ use Rattle.runfile.proofs.next_table.Statement.{statement}
 use Rattle.runfile.proofs.next_table.Tie as tie
 
 small : (c : tie.After-beat-words) → c .beat-words .result ≤ 2000
-small c = let s = c .before .before .before in rw (c .beat-words .ensures) (sent-most (said (s .args .h)) (s .pre .0) .2)
+small c = let s = c .before .before .before in rw (c .beat-words .ensures) (sent-most (said (s .args .h)) (s .pre .0 .passes) .2)
 
 read-words-requires : tie.Need-read-words-requires
 read-words-requires c κs =
@@ -46,7 +46,7 @@ next-table-spec =
     let r = c .before .before .before in
     let w = r .before .before .before in
     let s = w .before .before .before in
-    (s .pre .0, size r ∙ w .beat-words .ensures, s .pre .2))
+    (s .pre .0, size r ∙ w .beat-words .ensures))
     (λ c. search needs)
     (λ c.
     let k = c .before .before in

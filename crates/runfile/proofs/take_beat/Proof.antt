@@ -30,19 +30,19 @@ good c =
     let s = c .before .before .before .before in
     let a = s .args in
     let f = beat-formed (said (a .h)) (a .beat) (a .line .now) (sym (c .before .beat-line-refusal .ensures) ∙ c .if1 .left) in
-    (f .0, f .1, omega (arith, start-most (said (a .h)) (s .pre .0), s .pre .1))
+    (f .0, f .1, omega (arith, start-most (said (a .h)) (s .pre .passes), s .pre .room))
 
 next-table-requires : tie.Need-next-table-requires
 next-table-requires c κs =
     let e = c .before in
     let s = e .before .before .before .before in
-    (s .pre .0, good e .0, s .pre .1)
+    (s .pre, good e .0)
 
 put-line-requires : tie.Need-put-line-requires
 put-line-requires c κs =
     let t = c .before .before .before .before in
     let e = t .before .before in
-    (e .before .before .before .before .pre .0, omega (arith, good e .2, t .next-table .kept .1 .1 .0))
+    record { passes = e .before .before .before .before .pre .passes; room = omega (arith, good e .2, t .next-table .kept .1 .1 .0) }
 
 accepted-beat : tie.Need-returns-2
 unfolding takeLine stageOf keptOf tableOf

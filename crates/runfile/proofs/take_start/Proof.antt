@@ -24,7 +24,7 @@ refused c = refused-takes _ _ _ _ _ _ (c .before .start-line-refusal .ensures) (
 
 -- the line is well formed, and its words fit the table
 fits : (c : tie.Else1) → startWords (said (c .before .before .before .before .args .h)) ≤ length (c .before .before .before .before .args .table .now)
-fits c = let s = c .before .before .before .before in omega (arith, start-most (said (s .args .h)) (s .pre .0), s .pre .1)
+fits c = let s = c .before .before .before .before in omega (arith, start-most (said (s .args .h)) (s .pre .passes), s .pre .room)
 
 read-words-requires : tie.Need-read-words-requires
 read-words-requires c κs =
@@ -37,7 +37,7 @@ put-line-requires : tie.Need-put-line-requires
 put-line-requires c κs =
     let r = c .before .before .before .before in
     let e = r .before .before .before in
-    (e .before .before .before .before .pre .0, omega (arith, fits e, r .read-words .kept .1 .1 .0))
+    record { passes = e .before .before .before .before .pre .passes; room = omega (arith, fits e, r .read-words .kept .1 .1 .0) }
 
 accepted-start : tie.Need-returns-2
 unfolding takeLine keptOf tableOf

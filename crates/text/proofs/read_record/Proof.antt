@@ -9,7 +9,7 @@ use lib.ListN.{length}
 use Rattle.rules.specs.Parameters.{recordWords}
 use Rattle.rules.specs.Text.{wellFormed}
 use Rattle.rules.specs.Calls.{readOut}
-use Rattle.digits.proofs.Hexadecimal.{formed}
+use Rattle.digits.proofs.Hexadecimal.{readable}
 use Rattle.text.proofs.Accepted.{read-accepted}
 use Rattle.text.proofs.read_record.Statement.{statement}
 use Rattle.text.proofs.read_record.Tie as tie
@@ -29,8 +29,7 @@ good c =
 words-at-requires : tie.Need-words-at-requires
 words-at-requires c κs =
     let g = good (c .before) in
-    let t = formed _ _ (g .1) in
-    (t .1, omega arith)
+    readable _ _ (g .1) 0 _ (omega arith)
 
 returns-2 : tie.Need-returns-2
 unfolding readOut

@@ -53,7 +53,7 @@ words-at-spec =
     loop-holds
     (λ c. omega arith)
     (λ c. omega arith)
-    (λ c κs. (c .before .before .before .before .pre .0, omega arith))
+    (λ c κs. record { digits-alone = c .before .before .before .before .pre .digits-alone; inside = omega arith })
     (λ c. omega arith)
     (λ c. omega arith)
     (λ c. omega arith)

@@ -5,7 +5,7 @@ use native.Mathlib.Omega.{arith}
 use lib.ListN.{length, take}
 use lib.Seq.{length-take-le}
 use Rattle.rules.specs.Text.{wordsAt}
-use Rattle.digits.proofs.Hexadecimal.{formed}
+use Rattle.digits.proofs.Hexadecimal.{readable}
 use Rattle.digits.proofs.WordsOfText.{words-length}
 use Rattle.frames.proofs.Stores.{prefix-stored}
 use Rattle.frames.proofs.frame.read_words.Statement.{statement}
@@ -16,8 +16,7 @@ whole c = let s = c .before .before .before in length-take-le (s .args .words) (
 
 words-at-requires : tie.Need-words-at-requires
 words-at-requires c κs =
-    let t = formed _ _ (c .before .before .before .pre .0) in
-    (t .1, omega (arith, whole c))
+    readable _ _ (c .before .before .before .pre .0) 4 _ (omega (arith, whole c))
 
 returns : tie.Need-returns
 returns c =

@@ -48,10 +48,10 @@ returns c =
 
 -- n is small
 few : (c : tie.After-loop Inv-loop μ-loop) → c .before .before .before .before .before .args .h .n ≤ 16
-few c = let s = c .before .before .before .before .before in good (said (s .args .h)) (s .pre .0) .shape .cards
+few c = let s = c .before .before .before .before .before in good (said (s .args .h)) (s .pre .passes) .shape .cards
 
 few-here : (c : tie.After-shown-word Inv-loop μ-loop) → c .before .before .before .before .before .before .before .args .h .n ≤ 16
-few-here c = let s = c .before .before .before .before .before .before .before in good (said (s .args .h)) (s .pre .0) .shape .cards
+few-here c = let s = c .before .before .before .before .before .before .before in good (said (s .args .h)) (s .pre .passes) .shape .cards
 
 pub put-line-spec : {M : Type 1} → statement M
 put-line-spec =
@@ -64,7 +64,7 @@ put-line-spec =
     (λ c. search needs)
     (λ c. search needs)
     (λ c. search needs)
-    (λ c κs. (c .before .before .before .before .before .before .pre .0, omega arith, c .before .before .before .before .before .before .pre .1))
+    (λ c κs. (c .before .before .before .before .before .before .pre, omega arith))
     (λ c κs. omega (arith, few-here c, c .before .before .before .loop .inv .1))
     (λ c. omega arith)
     (λ c. omega arith)

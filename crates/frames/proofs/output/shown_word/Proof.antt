@@ -22,7 +22,7 @@ inside c =
     let a = s .args in
     let v = a .v * c .record-words .result + c .record-words .result in
     let row : v ≤ startWords (said (a .h)) = rw (c .record-words .ensures) (row-inside (a .h .n) (recordWords (a .h .f)) (a .v) (s .pre .1)) in
-    (omega (arith, s .pre .2), omega (arith, start-most (said (a .h)) (s .pre .0)))
+    (omega (arith, s .pre .0 .room), omega (arith, start-most (said (a .h)) (s .pre .0 .passes)))
 
 sound : tie.Need-returns-2
 sound c =
@@ -32,7 +32,7 @@ sound c =
     let from = a .v * w .record-words .result in
     let q : from + w .record-words .result - from ≡ w .record-words .result = omega arith in
     rw (c .word-of .ensures, c .before .shown-count .ensures .number, q)
-    (shown-sound (said (a .h)) (a .table .now) (a .v) (w .record-words .result) (e .before .before .before .pre .0) (w .record-words .ensures) (inside w .0)
+    (shown-sound (said (a .h)) (a .table .now) (a .v) (w .record-words .result) (e .before .before .before .pre .0 .passes) (w .record-words .ensures) (inside w .0)
     (sym (e .before .is-broken .ensures) ∙ e .if1 .left) _ refl
     (length-take-le (w .record-words .result) (drop from (a .table .now)) (omega (arith, inside w .0, length-drop from (a .table .now)))))
 
@@ -40,7 +40,7 @@ pub shown-word-spec : {M : Type 1} → statement M
 shown-word-spec =
     tie.close
     (tie.spec
-    (λ c κs. omega (arith, good (said (c .before .args .h)) (c .before .pre .0) .shape .cards, c .before .pre .1))
+    (λ c κs. omega (arith, good (said (c .before .args .h)) (c .before .pre .0 .passes) .shape .cards, c .before .pre .1))
     (λ c. shown-broken _ _ _ (sym (c .before .is-broken .ensures) ∙ c .if1 .taken))
     (λ c κs. search needs)
     (λ c. search needs)
