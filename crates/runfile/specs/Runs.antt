@@ -6,7 +6,8 @@ use lib.ListN.{length, take}
 use lib.Seq.{sets}
 use Rattle.rules.specs.WholeBeat.{tableAfter}
 use Rattle.rules.specs.Text.{wordsAt}
-use Rattle.rules.specs.RunFile.{Header, headerTests, Stage, atHeader, atStart, atBeat, Taken, accepted, refused, startWords, beatWords, orRefused, takeLine}
+use Rattle.rules.specs.RunFile.{Header, headerTests, startWords, beatWords}
+use Rattle.rules.specs.RunFile.{Stage, atHeader, atStart, atBeat, Taken, accepted, refused, orRefused, takeLine}
 use Rattle.frames.specs.declared.header.Header.{Header as KeptHeader}
 use Rattle.frames.specs.Headers.{said, kept}
 use Rattle.runfile.specs.declared.Stage.{Stage as KeptStage}

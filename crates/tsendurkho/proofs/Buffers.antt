@@ -42,7 +42,8 @@ pub record Buffers (n f c card size records out : ℕ) : Type 0 where
   pub next : Lent 25 out
   pub accepts : stepRefusal n f c card (length (front size records)) (length (front 25 out)) ≡ 0
 
-pub buffers : (n f c card size records out : ℕ) → stepBytesRefusal n f c card records out ≡ 0 → (StepBytes n f c card records out → n * recordWords f ≤ size)
+pub buffers : (n f c card size records out : ℕ) → stepBytesRefusal n f c card records out ≡ 0
+    → (StepBytes n f c card records out → n * recordWords f ≤ size)
     → Buffers n f c card size records out
 buffers n f c card size records out z room =
     let s = accepted n f c card records out z in

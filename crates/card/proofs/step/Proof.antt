@@ -32,17 +32,19 @@ good c = sym (tested (c .before)) ∙ c .if1 .left
 
 put-next-requires : tie.Need-put-next-requires
 put-next-requires c κs =
-    let cleared = c .before .before .before .clear in
-    let same : length (cleared .last .0) ≡ length (c .before .before .before .before .before .before .before .before .before .args .out .now) = omega (arith, cleared .kept .0) in
-    (rw same (good (c .before .before .before .before .before)), cleared .ensures ∙ rw same)
+    let k = c .before .before .before in
+    let e = k .before .before in
+    let a = e .before .before .before .before .args in
+    let same : length (k .clear .last .0) ≡ length (a .out .now) = omega (arith, k .clear .kept .0) in
+    (rw same (good e), k .clear .ensures ∙ rw same)
 
 stepped : tie.Need-returns-2
 unfolding stepOut
 stepped c =
-    let p = c .before .before .before in
-    let e = p .before .before .before .before .before in
-    let cleared = p .before .before .before .clear in
-    let same : length (cleared .last .0) ≡ length (e .before .before .before .before .args .out .now) = omega (arith, cleared .kept .0) in
+    let k = c .before .before .before .before .before .before in
+    let e = k .before .before in
+    let a = e .before .before .before .before .args in
+    let same : length (k .clear .last .0) ≡ length (a .out .now) = omega (arith, k .clear .kept .0) in
     (sym (good e), c .before .before .put-next .ensures ∙ rw (same, good e))
 
 pub step-spec : {M : Type 1} → statement M

@@ -67,10 +67,16 @@ step-refusal-spec =
     (λ c. omega (arith, small c .table))
     (λ c. omega (arith, small c .table-units))
     (λ c. omega (arith, small c .table-units))
-    (λ c. let p = c .before .before in sym (later (p .before) ∙ rw (← (c .before .record-words .ensures), lt-leb _ _ (p .if2 .left), ne-eqb _ _ (c .if3 .taken))))
+    (λ c. let w = c .before in
+    let p = w .before in
+    sym (later (p .before) ∙ rw (← (w .record-words .ensures), lt-leb _ _ (p .if2 .left), ne-eqb _ _ (c .if3 .taken))))
     (λ c. omega (arith, small (c .before) .record-units))
     (λ c. omega (arith, small (c .before) .record-units))
-    (λ c. let p = c .before .before .before in
-    sym (later (p .before) ∙ rw (← (c .before .before .record-words .ensures), lt-leb _ _ (p .if2 .left), eq-eqb _ _ (c .before .if3 .left), ne-eqb _ _ (c .if4 .taken))))
-    (λ c. let p = c .before .before .before in
-    sym (later (p .before) ∙ rw (← (c .before .before .record-words .ensures), lt-leb _ _ (p .if2 .left), eq-eqb _ _ (c .before .if3 .left), eq-eqb _ _ (c .if4 .left)))))
+    (λ c. let w = c .before .before in
+    let p = w .before in
+    sym (later (p .before)
+    ∙ rw (← (w .record-words .ensures), lt-leb _ _ (p .if2 .left), eq-eqb _ _ (c .before .if3 .left), ne-eqb _ _ (c .if4 .taken))))
+    (λ c. let w = c .before .before in
+    let p = w .before in
+    sym (later (p .before)
+    ∙ rw (← (w .record-words .ensures), lt-leb _ _ (p .if2 .left), eq-eqb _ _ (c .before .if3 .left), eq-eqb _ _ (c .if4 .left)))))

@@ -20,8 +20,8 @@ returns c = (c .before .read-refusal .ensures, rw (← (c .before .read-refusal 
 
 -- what is known once nothing is refused
 good : (c : tie.Else1)
-    → (length (c .before .before .before .before .args .out .now) ≡ recordWords (c .before .before .before .before .args .f))
-    × (wellFormed (4 * recordWords (c .before .before .before .before .args .f)) (c .before .before .before .before .args .text .now) ≡ true)
+    → let a = c .before .before .before .before .args in
+    (length (a .out .now) ≡ recordWords (a .f)) × (wellFormed (4 * recordWords (a .f)) (a .text .now) ≡ true)
 good c =
     let a = c .before .before .before .before .args in
     read-accepted (a .n) (a .f) (a .text .now) (length (a .out .now)) (sym (c .before .read-refusal .ensures) ∙ c .if1 .left)
