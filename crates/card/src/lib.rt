@@ -6,6 +6,10 @@ ghost use lib.ListN.{length, replicate};
 ghost use Rattle.rules.specs.Refusals.{stepRefusal, shownRefusal};
 ghost use Rattle.rules.specs.Calls.{stepOut};
 ghost use Rattle.card.specs.Answers.{Shows};
+ghost use Rattle.card.specs.Lengths.{refusalIn};
+
+// Lengths in words, each a unit.
+const WORDS: u8 = 1;
 
 // All words 0.
 fn clear(out: &mut [u16])
@@ -18,9 +22,9 @@ fn clear(out: &mut [u16])
     }
 }
 
-// Refusals 1, 2, 3, 4, 5, 6.
-pub fn step_refusal(n: u32, f: u32, c: u32, card: u32, records: usize, out: usize) -> u32
-    ensures { λ r. ⌜ r ≡ stepRefusal n f c card records out ⌝ }
+// Refusals 1, 2, 3, 4, 5, 6, of lengths in units: so many make a word.
+pub fn step_refusal(n: u32, f: u32, c: u32, card: u32, units: u8, records: usize, out: usize) -> u32
+    ensures { λ r. ⌜ r ≡ refusalIn units n f c card records out ⌝ }
 {
     let refusal = params::counter_refusal(n, f, c);
     if refusal != 0 {
@@ -30,10 +34,10 @@ pub fn step_refusal(n: u32, f: u32, c: u32, card: u32, records: usize, out: usiz
         return 4;
     }
     let w = params::record_words(f);
-    if records != (n * w) as usize {
+    if records != (units as u32 * (n * w)) as usize {
         return 5;
     }
-    if out != w as usize {
+    if out != (units as u32 * w) as usize {
         return 6;
     }
     0
@@ -58,9 +62,10 @@ pub fn put_next(n: u32, f: u32, c: u32, card: u32, records: &[u16], out: &mut [u
 
 // One card's step.
 pub fn step(n: u32, f: u32, c: u32, card: u32, records: &[u16], out: &mut [u16]) -> u32
-    ensures { λ r. ⌜ (r ≡ stepRefusal n f c card (length (now (records .entry))) (length (now (out .entry)))) × (now (out .exit) ≡ stepOut n f c card (now (records .entry)) (now (out .entry))) ⌝ }
+    ensures { λ r. ⌜ (r ≡ stepRefusal n f c card (length (now (records .entry))) (length (now (out .entry))))
+        × (now (out .exit) ≡ stepOut n f c card (now (records .entry)) (now (out .entry))) ⌝ }
 {
-    let refusal = step_refusal(n, f, c, card, records.len(), out.len());
+    let refusal = step_refusal(n, f, c, card, WORDS, records.len(), out.len());
     if refusal != 0 {
         return refusal;
     }

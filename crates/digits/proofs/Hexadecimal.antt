@@ -15,6 +15,7 @@ use Rattle.rules.specs.Counting.{rows}
 use Rattle.rules.specs.Text.{digitOf, isDigit, valueOf, hexOf, numberAt, allDigits, wellFormed}
 use Rattle.rules.proofs.Tests.{le-or-lt, and-left, and-right, and-both}
 use Rattle.rules.proofs.Lists.{before-seam, rows-same, tabulate-length, tabulate-at}
+use Rattle.digits.specs.Readable.{Readable}
 
 -- a value below 16 is that of its digit
 pub value-of-digit : (x : ℕ) → x < 16 → valueOf (digitOf x) ≡ x
@@ -27,7 +28,9 @@ value-of-digit x l = ⊎-elim
 pub digit-is : (x : ℕ) → x < 16 → isDigit (digitOf x) ≡ true
 unfolding digitOf isDigit
 digit-is x l = ⊎-elim
-    (λ (h : 10 ≤ x). rw (le-ltb x 10 h, le-leb 48 (87 + x) (omega arith), lt-leb (87 + x) 57 (omega arith), le-leb 97 (87 + x) (omega arith), le-leb (87 + x) 102 (omega arith)))
+    (λ (h : 10 ≤ x).
+    let ch = 87 + x in
+    rw (le-ltb x 10 h, le-leb 48 ch (omega arith), lt-leb ch 57 (omega arith), le-leb 97 ch (omega arith), le-leb ch 102 (omega arith)))
     (λ (h : x < 10). rw (lt-ltb x 10 h, le-leb 48 (48 + x) (omega arith), le-leb (48 + x) 57 (omega arith)))
     (le-or-lt 10 x)
 
@@ -80,7 +83,8 @@ pub digits-append : (s t : List ℕ) → allDigits s ≡ true → allDigits t �
 unfolding allDigits
 digits-append [] t p q = q
 digits-append (ch ∷ s) t p q =
-    and-both (isDigit ch) (allDigits (s ++ t)) (and-left (isDigit ch) (allDigits s) p) (digits-append s t (and-right (isDigit ch) (allDigits s) p) q)
+    and-both (isDigit ch) (allDigits (s ++ t)) (and-left (isDigit ch) (allDigits s) p)
+    (digits-append s t (and-right (isDigit ch) (allDigits s) p) q)
 
 pub digits-rows : (n : ℕ) (g : ℕ → List ℕ) → ((i : ℕ) → allDigits (g i) ≡ true) → allDigits (rows n g) ≡ true
 unfolding allDigits rows
@@ -88,7 +92,8 @@ digits-rows zero g h = refl
 digits-rows (suc n) g h = digits-append (rows n g) (g n) (digits-rows n g h) (h n)
 
 -- one character less to look at
-pub digits-from : (text : List ℕ) (i : ℕ) → i < length text → allDigits (drop i text) ≡ isDigit (getD text i 0) && allDigits (drop (i + 1) text)
+pub digits-from : (text : List ℕ) (i : ℕ) → i < length text
+    → allDigits (drop i text) ≡ isDigit (getD text i 0) && allDigits (drop (i + 1) text)
 unfolding allDigits
 digits-from text i l = rw (add-one i, drop-cons text i 0 l)
 
@@ -96,7 +101,14 @@ digits-from text i l = rw (add-one i, drop-cons text i 0 l)
 pub formed : (size : ℕ) (text : List ℕ) → wellFormed size text ≡ true → (length text ≡ size) × (allDigits text ≡ true)
 unfolding wellFormed
 formed size text e =
-    (eqb-true (length text) size (and-left (eqb (length text) size) (allDigits text) e), and-right (eqb (length text) size) (allDigits text) e)
+    let long = eqb (length text) size in
+    (eqb-true (length text) size (and-left long (allDigits text) e), and-right long (allDigits text) e)
+
+pub readable : (size : ℕ) (text : List ℕ) → wellFormed size text ≡ true → (at digits : ℕ) → at + digits ≤ size
+    → Readable text at digits
+readable size text e at digits l =
+    let t = formed size text e in
+    record { digits-alone = t .1; inside = omega arith }
 
 -- the last digit of a number, and the digits of the rest
 pub hex-last : (k x : ℕ) → hexOf (suc k) x ≡ hexOf k (x / 16) ++ (digitOf (x % 16) ∷ [])
@@ -104,7 +116,14 @@ unfolding hexOf rows
 hex-last k x =
     let e : suc k - 1 - k ≡ 0 = omega arith in
     let d : x / 1 ≡ x = omega arith in
-    rw (e, d, rows-same k (λ (i : ℕ). digitOf (x / 16 ^ (suc k - 1 - i) % 16) ∷ []) (λ (i : ℕ). digitOf (x / 16 / 16 ^ (k - 1 - i) % 16) ∷ []) (λ i l. rw (shift i l)))
+    rw (
+      e,
+      d,
+      rows-same k
+          (λ (i : ℕ). digitOf (x / 16 ^ (suc k - 1 - i) % 16) ∷ [])
+          (λ (i : ℕ). digitOf (x / 16 / 16 ^ (k - 1 - i) % 16) ∷ [])
+          (λ i l. rw (shift i l)),
+    )
   where
     shift : (i : ℕ) → i < k → x / 16 ^ (suc k - 1 - i) ≡ x / 16 / 16 ^ (k - 1 - i)
     shift i l =
@@ -122,7 +141,8 @@ hex-digits k x = digits-all (hexOf k x) (λ i l.
     (digit-is (x / 16 ^ (k - 1 - i) % 16) (omega arith)))
 
 -- only the k characters matter
-pub number-same : (s t : List ℕ) (a b k : ℕ) → ((j : ℕ) → j < k → getD s (a + j) 0 ≡ getD t (b + j) 0) → numberAt s a k ≡ numberAt t b k
+pub number-same : (s t : List ℕ) (a b k : ℕ) → ((j : ℕ) → j < k → getD s (a + j) 0 ≡ getD t (b + j) 0)
+    → numberAt s a k ≡ numberAt t b k
 unfolding numberAt
 number-same s t a b zero h = refl
 number-same s t a b (suc k) h = rw (number-same s t a b k (λ j l. h j (omega arith)), h k (omega arith))
@@ -136,9 +156,11 @@ pub number-below : (text : List ℕ) (at k : ℕ) → allDigits text ≡ true �
 unfolding numberAt
 number-below text at zero e l = omega arith
 number-below text at (suc k) e l =
-    omega (arith, pow-suc 16 k, number-below text at k e (omega arith), value-below (getD text (at + k) 0) (digit-at text e (at + k) (omega arith)))
+    let last = value-below (getD text (at + k) 0) (digit-at text e (at + k) (omega arith)) in
+    omega (arith, pow-suc 16 k, number-below text at k e (omega arith), last)
 
-pub number-within : (text : List ℕ) (at k most : ℕ) → allDigits text ≡ true → at + k ≤ length text → k ≤ most → numberAt text at k < 16 ^ most
+pub number-within : (text : List ℕ) (at k most : ℕ) → allDigits text ≡ true → at + k ≤ length text → k ≤ most
+    → numberAt text at k < 16 ^ most
 number-within text at k most e l m = lt-of-lt-of-le (number-below text at k e l) (pow-le-pow-right (omega arith) m)
 
 -- one digit more
@@ -153,15 +175,24 @@ number-of-hex zero x l = omega arith
 number-of-hex (suc k) x l =
     let s : List ℕ = hexOf k (x / 16) in
     let t : List ℕ = digitOf (x % 16) ∷ [] in
-    let d : getD (s ++ t) (0 + k) 0 ≡ digitOf (x % 16) = ap (λ (j : ℕ). getD (s ++ t) j 0) (omega arith) ∙ getD-at s _ [] 0 k (hex-length k (x / 16)) in
-    rw (hex-last k x, d, number-front s t k (omega (arith, hex-length k (x / 16))), number-of-hex k (x / 16) (omega (arith, pow-suc 16 k)), value-of-digit (x % 16) (omega arith)) (omega arith)
+    let d : getD (s ++ t) (0 + k) 0 ≡ digitOf (x % 16) =
+    ap (λ (j : ℕ). getD (s ++ t) j 0) (omega arith) ∙ getD-at s _ [] 0 k (hex-length k (x / 16)) in
+    rw (
+      hex-last k x,
+      d,
+      number-front s t k (omega (arith, hex-length k (x / 16))),
+      number-of-hex k (x / 16) (omega (arith, pow-suc 16 k)),
+      value-of-digit (x % 16) (omega arith),
+    )
+    (omega arith)
 
 pub hex-none : (x : ℕ) → hexOf 0 x ≡ []
 unfolding hexOf rows
 hex-none x = refl
 
 -- and no other digits make that number
-pub hex-of-number : (text : List ℕ) (at k : ℕ) → allDigits text ≡ true → at + k ≤ length text → hexOf k (numberAt text at k) ≡ take k (drop at text)
+pub hex-of-number : (text : List ℕ) (at k : ℕ) → allDigits text ≡ true → at + k ≤ length text
+    → hexOf k (numberAt text at k) ≡ take k (drop at text)
 unfolding numberAt
 hex-of-number text at zero e l = hex-none 0
 hex-of-number text at (suc k) e l =
@@ -172,4 +203,12 @@ hex-of-number text at (suc k) e l =
     let q : (16 * n + valueOf ch) / 16 ≡ n = omega arith in
     let r : (16 * n + valueOf ch) % 16 ≡ valueOf ch = omega arith in
     let f : k < length (drop at text) = simp length-drop (omega arith) in
-    rw (hex-last k (16 * n + valueOf ch), q, r, digit-of-value ch d, hex-of-number text at k e (omega arith), take-suc (drop at text) k 0 f, getD-drop at text k 0)
+    rw (
+      hex-last k (16 * n + valueOf ch),
+      q,
+      r,
+      digit-of-value ch d,
+      hex-of-number text at k e (omega arith),
+      take-suc (drop at text) k 0 f,
+      getD-drop at text k 0,
+    )

@@ -6,7 +6,8 @@ ghost use Prim.Native.Nat.{_+_, _*_, _%_, _<_, _≤_};
 ghost use lib.Dec.{leb};
 ghost use lib.ListN.{length};
 ghost use lib.Seq.{sets};
-ghost use Rattle.rules.specs.Text.{digitOf, isDigit, valueOf, hexOf, numberAt, allDigits, wellFormed};
+ghost use Rattle.rules.specs.Text.{digitOf, isDigit, valueOf, hexOf, numberAt, wellFormed};
+ghost use Rattle.digits.specs.Readable.{Readable};
 
 pub mod words; // words.rt: words of four digits
 
@@ -77,7 +78,7 @@ pub fn well_formed(text: &[u8], size: usize) -> bool
 
 // The number that some digits from a place on make.
 pub fn number_at(text: &[u8], at: usize, digits: usize) -> u32
-    requires { ⌜ (allDigits (now text) ≡ true) × (at + digits ≤ length (now text)) × (digits ≤ 8) ⌝ }
+    requires { ⌜ (Readable (now text) at digits) × (digits ≤ 8) ⌝ }
     ensures { λ r. ⌜ r ≡ numberAt (now (text .entry)) at digits ⌝ }
 {
     let mut number: u32 = 0;

@@ -1,16 +1,16 @@
 // Words, four digits each, and words one after the other: "A word is 4 digits."
 ghost use mathlib.Core.Path.{_≡_};
-ghost use mathlib.Core.Bool.{true};
 ghost use Prim.Native.Nat.{_+_, _*_, _≤_};
 ghost use lib.ListN.{length};
 ghost use lib.Seq.{sets};
-ghost use Rattle.rules.specs.Text.{hexOf, numberAt, allDigits, textOf, wordsAt};
+ghost use Rattle.rules.specs.Text.{hexOf, numberAt, textOf, wordsAt};
+ghost use Rattle.digits.specs.Readable.{Readable};
 use super::number_at;
 use super::put_number;
 
 // The word whose four digits stand at a place.
 fn word_at(text: &[u8], at: usize) -> u16
-    requires { ⌜ (allDigits (now text) ≡ true) × (at + 4 ≤ length (now text)) ⌝ }
+    requires { ⌜ Readable (now text) at 4 ⌝ }
     ensures { λ r. ⌜ r ≡ numberAt (now (text .entry)) at 4 ⌝ }
 {
     number_at(text, at, 4) as u16
@@ -26,7 +26,7 @@ pub fn put_word(out: &mut [u8], at: usize, word: u16)
 
 // Reads as many words as the buffer holds, from a place on.
 pub fn words_at(text: &[u8], at: usize, out: &mut [u16])
-    requires { ⌜ (allDigits (now text) ≡ true) × (at + 4 * length (now out) ≤ length (now text)) ⌝ }
+    requires { ⌜ Readable (now text) at (4 * length (now out)) ⌝ }
     ensures { λ _. ⌜ now (out .exit) ≡ wordsAt (now (text .entry)) at (length (now (out .entry))) ⌝ }
 {
     let count = out.len();

@@ -19,7 +19,9 @@ good h e =
 pub start-most : (h : Header) → headerTests h ≡ 0 → startWords h ≤ 400
 start-most h e = let g = good h e .shape in table-most (h .n) (h .f) (g .cards) (g .broken)
 
-pub sent-most : (h : Header) → headerTests h ≡ 0 → (brokenBelow (h .set) (h .n) ≤ 5) × (h .n * brokenBelow (h .set) (h .n) ≤ 80) × (beatWords h ≤ 2000)
+pub sent-most : (h : Header) → headerTests h ≡ 0
+    → let count = brokenBelow (h .set) (h .n) in
+    (count ≤ 5) × (h .n * count ≤ 80) × (beatWords h ≤ 2000)
 sent-most h e =
     let g = good h e in
     let b : brokenBelow (h .set) (h .n) ≤ 5 = omega (arith, g .set-few, g .shape .broken) in

@@ -41,13 +41,24 @@ pub counter-none : (h : Header) → headerTests h ≡ 0 → counterRefusal (h .n
 counter-none h e = counter-part (badCards (h .n)) (badBroken (h .n) (h .f)) (badModulus (h .c)) (badSet (h .n) (h .f) (h .set)) e
 
 -- the shown count of a sound card
-pub shown-sound : (h : Header) (table : List ℕ) (v w : ℕ) → headerTests h ≡ 0 → w ≡ recordWords (h .f) → v * w + w ≤ length table → isBroken (h .set) v ≡ false
+pub shown-sound : (h : Header) (table : List ℕ) (v w : ℕ) → headerTests h ≡ 0
+    → w ≡ recordWords (h .f) → v * w + w ≤ length table → isBroken (h .set) v ≡ false
     → (words : List ℕ) → words ≡ take w (drop (v * w) table) → length words ≡ w
     → wordOf (shownAnswer (h .n) (h .f) (h .c) words) ≡ shownWord h table v
 unfolding shownAnswer shownCount shownWord
 shown-sound h table v w e q l b words p n =
-    let none = counter-passed (h .n) (h .f) (h .c) (given 5 (wrong (length words) (recordWords (h .f))) 0) _ (sym (counter-none h e)) refl in
-    rw (none, eq-eqb (length words) (recordWords (h .f)) (n ∙ q), b, p, getD-take w (drop (v * w) table) (outputPlace (h .f)) 0 (omega (arith, output-inside (h .f))), getD-drop (v * w) table (outputPlace (h .f)) 0, q)
+    let size = recordWords (h .f) in
+    let at = outputPlace (h .f) in
+    let none = counter-passed (h .n) (h .f) (h .c) (given 5 (wrong (length words) size) 0) _ (sym (counter-none h e)) refl in
+    rw (
+      none,
+      eq-eqb (length words) size (n ∙ q),
+      b,
+      p,
+      getD-take w (drop (v * w) table) at 0 (omega (arith, output-inside (h .f))),
+      getD-drop (v * w) table at 0,
+      q,
+    )
 
 pub shown-broken : (h : Header) (table : List ℕ) (v : ℕ) → isBroken (h .set) v ≡ true → noneWord ≡ shownWord h table v
 unfolding shownWord
@@ -79,7 +90,8 @@ unfolding refusalLine
 refusal-length number refusal = simp (length-append, hex-length)
 
 pub refusal-stored : (number refusal : ℕ) (out : List ℕ)
-    → set (sets (sets (sets out 0 (hexOf 4 noneWord)) 4 (hexOf 8 number)) 12 (hexOf 2 refusal)) 14 lineFeed ≡ sets out 0 (refusalLine number refusal)
+    → set (sets (sets (sets out 0 (hexOf 4 noneWord)) 4 (hexOf 8 number)) 12 (hexOf 2 refusal)) 14 lineFeed
+    ≡ sets out 0 (refusalLine number refusal)
 unfolding refusalLine
 refusal-stored number refusal out =
     let none = hexOf 4 noneWord in
@@ -87,10 +99,18 @@ refusal-stored number refusal out =
     let why = hexOf 2 refusal in
     let first : 0 + length (none ++ line) ≡ 12 = omega (arith, length-append none line, hex-length 4 noneWord, hex-length 8 number) in
     let both : 0 + length (none ++ line ++ why) ≡ 14 = omega (arith, length-append (none ++ line) why, hex-length 2 refusal) in
-    rw (sets-append (none ++ line ++ why) (lineFeed ∷ []) out 0, both, sets-append (none ++ line) why out 0, first, sets-append none line out 0, hex-length 4 noneWord)
+    rw (
+      sets-append (none ++ line ++ why) (lineFeed ∷ []) out 0,
+      both,
+      sets-append (none ++ line) why out 0,
+      first,
+      sets-append none line out 0,
+      hex-length 4 noneWord,
+    )
 
 -- only the n records matter
-pub line-same : (h : Header) (beat : ℕ) (s t : List ℕ) → ((j : ℕ) → j < startWords h → getD s j 0 ≡ getD t j 0) → outputLine h beat s ≡ outputLine h beat t
+pub line-same : (h : Header) (beat : ℕ) (s t : List ℕ) → ((j : ℕ) → j < startWords h → getD s j 0 ≡ getD t j 0)
+    → outputLine h beat s ≡ outputLine h beat t
 unfolding outputLine shownWord shownCount
 line-same h beat s t e =
     rw (rows-same (h .n) (shownText h s) (shownText h t) (λ v l.

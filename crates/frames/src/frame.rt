@@ -37,7 +37,8 @@ pub fn beat_words(h: Header) -> usize
 // "On a line, 10 comes first."
 fn frame_refusal(line: &[u8], words: usize, beat: u32) -> u32
     requires { ⌜ words ≤ 2000 ⌝ }
-    ensures { λ r. ⌜ r ≡ given 10 (not (wellFormed (frameDigits words) (now (line .entry)))) (given 11 (not (eqb (beatOf (now (line .entry))) beat)) 0) ⌝ }
+    ensures { λ r. ⌜ r ≡ given 10 (not (wellFormed (frameDigits words) (now (line .entry))))
+        (given 11 (not (eqb (beatOf (now (line .entry))) beat)) 0) ⌝ }
 {
     if !well_formed(line, 4 + 4 * words) {
         return 10;

@@ -1,10 +1,10 @@
 // The lines that are written: "Every output line ends with a line feed."
 ghost use mathlib.Core.Path.{_≡_};
-ghost use Prim.Native.Nat.{_<_, _≤_};
+ghost use Prim.Native.Nat.{_<_};
 ghost use lib.ListN.{length};
 ghost use lib.Seq.{sets};
-ghost use Rattle.rules.specs.RunFile.{headerTests, startWords, shownWord, outputLine, refusalLine};
-ghost use Rattle.frames.specs.Headers.{said};
+ghost use Rattle.rules.specs.RunFile.{shownWord, outputLine, refusalLine};
+ghost use Rattle.frames.specs.Headers.{said, Tabled};
 use super::header::Header;
 use digits::put_number;
 use digits::words::put_word;
@@ -16,7 +16,7 @@ const NONE_WORD: u16 = 65535;
 
 // "for each card in order, its shown count, ffff for none or broken"
 fn shown_word(h: Header, table: &[u16], v: u32) -> u16
-    requires { ⌜ (headerTests (said h) ≡ 0) × (v < h .n) × (startWords (said h) ≤ length (now table)) ⌝ }
+    requires { ⌜ (Tabled h (now table)) × (v < h .n) ⌝ }
     ensures { λ r. ⌜ r ≡ shownWord (said h) (now (table .entry)) v ⌝ }
 {
     if is_broken(h.set, v) {
@@ -31,8 +31,9 @@ fn shown_word(h: Header, table: &[u16], v: u32) -> u16
 
 // Writes the line of an accepted frame: the beat and the shown counts.
 pub fn put_line(h: Header, beat: u16, table: &[u16], out: &mut [u8; 69]) -> usize
-    requires { ⌜ (headerTests (said h) ≡ 0) × (startWords (said h) ≤ length (now table)) ⌝ }
-    ensures { λ r. ⌜ (r ≡ length (outputLine (said h) beat (now (table .entry)))) × (now (out .exit) ≡ sets (now (out .entry)) 0 (outputLine (said h) beat (now (table .entry)))) ⌝ }
+    requires { ⌜ Tabled h (now table) ⌝ }
+    ensures { λ r. ⌜ (r ≡ length (outputLine (said h) beat (now (table .entry))))
+        × (now (out .exit) ≡ sets (now (out .entry)) 0 (outputLine (said h) beat (now (table .entry)))) ⌝ }
 {
     put_word(out, 0, beat);
     let n = h.n;
@@ -46,7 +47,8 @@ pub fn put_line(h: Header, beat: u16, table: &[u16], out: &mut [u8; 69]) -> usiz
 
 // Writes the line of a refusal, and answers its length: "ffff, the line's number from 1 (8 digits), the refusal (2 digits)".
 pub fn put_refusal(number: u32, refusal: u32, out: &mut [u8; 69]) -> usize
-    ensures { λ r. ⌜ (r ≡ length (refusalLine number refusal)) × (now (out .exit) ≡ sets (now (out .entry)) 0 (refusalLine number refusal)) ⌝ }
+    ensures { λ r. ⌜ (r ≡ length (refusalLine number refusal))
+        × (now (out .exit) ≡ sets (now (out .entry)) 0 (refusalLine number refusal)) ⌝ }
 {
     put_word(out, 0, NONE_WORD);
     put_number(out, 4, 8, number);

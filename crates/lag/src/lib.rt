@@ -1,12 +1,13 @@
 ghost use mathlib.Core.Path.{_≡_};
-ghost use Prim.Native.Nat.{ℕ, _<_, _≤_};
+ghost use Prim.Native.Nat.{_<_};
 ghost use Rattle.rules.specs.Refusals.{lagRefusal};
 ghost use Rattle.rules.specs.Lag.{ahead};
 ghost use Rattle.rules.specs.Calls.{lagAnswer};
+ghost use Rattle.lag.specs.Counts.{Counts};
 
 // How far one goes on from y to come to x.
 fn turn_ahead(c: u32, x: u32, y: u32) -> u32
-    requires { ⌜ (x < c) × (y < c) × (c ≤ 65535) ⌝ }
+    requires { ⌜ Counts c x y ⌝ }
     ensures { λ r. ⌜ (r < c) × (r ≡ ahead c x y) ⌝ }
 {
     if y <= x { x - y } else { x + c - y }

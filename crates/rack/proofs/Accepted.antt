@@ -57,7 +57,8 @@ pub sent-fits : (r : Rack) (held sent out v u : ℕ) → BeatOf r held sent out 
 sent-fits r held sent out v u g lv lu e =
     let count = brokenBelow (r .set) (r .n) in
     let row = digits-lt lv (broken-before (r .set) u (r .n) lu e) in
-    let most = sent-most (r .n) count (size r) (g .shape .cards) (omega (arith, g .shape .cards, broken-most (r .set) (r .n))) (words-most (r .f) (g .shape .broken)) in
+    let few : count ≤ mostCards = omega (arith, g .shape .cards, broken-most (r .set) (r .n)) in
+    let most = sent-most (r .n) count (size r) (g .shape .cards) few (words-most (r .f) (g .shape .broken)) in
     record {
       row = omega arith;
       inside = omega (arith, record-inside (v * count + brokenBelow (r .set) u) (r .n * count) (size r) row, g .sent-whole);
@@ -65,7 +66,8 @@ sent-fits r held sent out v u g lv lu e =
     }
 
 -- a card is not refused its step
-pub step-passes : (r : Rack) (held sent out v records words : ℕ) → Accepted r held sent out → v < r .n → records ≡ r .n * size r → words ≡ size r
+pub step-passes : (r : Rack) (held sent out v records words : ℕ) → Accepted r held sent out → v < r .n
+    → records ≡ r .n * size r → words ≡ size r
     → stepRefusal (r .n) (r .f) (r .c) v records words ≡ 0
 step-passes r held sent out v records words a l er ew =
     let p = not-given 1 (badCards (r .n)) _ (omega arith) a in

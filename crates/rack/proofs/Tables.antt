@@ -24,8 +24,8 @@ pub copied-more : (from to : List ℕ) (at place j : ℕ)
     → set (sets to place (wordsFrom from at j)) (place + j) (getD from (at + j) 0) ≡ sets to place (wordsFrom from at (j + 1))
 unfolding rows
 copied-more from to at place j =
-    rw add-one
-    (sets-more (wordsFrom from at j) to place (place + j) (getD from (at + j) 0) (omega (arith, tabulate-length j (λ (i : ℕ). getD from (at + i) 0))))
+    let long = tabulate-length j (λ (i : ℕ). getD from (at + i) 0) in
+    rw add-one (sets-more (wordsFrom from at j) to place (place + j) (getD from (at + j) 0) (omega (arith, long)))
 
 -- a record's part of the table, `&mut table[at..at + w]`; and the table where a record was written there
 abbrev pub part : List ℕ → ℕ → ℕ → List ℕ

@@ -3,7 +3,7 @@ use mathlib.Core.Path.{_≡_}
 use mathlib.Core.Bool.{true, false}
 use mathlib.Core.List.{List}
 use Prim.Native.Nat.{ℕ, _+_, _<_}
-use lib.ListN.{getD}
+use lib.ListN.{length, getD}
 use Rattle.rules.specs.Counting.{tabulate}
 use Rattle.rules.specs.Parameters.{recordWords}
 use Rattle.rules.specs.Groups.{place, heardIn}
@@ -34,6 +34,14 @@ abbrev pub BrokenAsSent : Rack → List ℕ → ℕ → ℕ → List ℕ → Typ
 BrokenAsSent r sent v end heard =
     (u j : ℕ) → u < end → isBroken (r .set) u ≡ true → j < size r
     → heardIn (size r) heard u j ≡ heardIn (size r) sent (place (brokenBelow (r .set) (r .n)) v (brokenBelow (r .set) u)) j
+
+-- what the record of the card v is written from: the beat is not refused, and the table of a receiver has the sound cards as
+-- they are held
+pub record Receives (r : Rack) (held sent heard out : List ℕ) (v : ℕ) : Type 0 where
+  pub accepted : Accepted r (length held) (length sent) (length out)
+  pub card-below : v < r .n
+  pub heard-whole : length heard ≡ length held
+  pub sound : SoundAsHeld r held heard
 
 -- the record of the card v after the beat
 abbrev pub recordOf : Rack → List ℕ → List ℕ → ℕ → List ℕ

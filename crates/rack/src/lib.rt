@@ -6,7 +6,7 @@ ghost use lib.Seq.{sets};
 ghost use Rattle.rules.specs.WholeBeat.{tableAfter};
 ghost use Rattle.rules.specs.Refusals.{beatRefusal};
 ghost use Rattle.rules.specs.Calls.{beatOut};
-ghost use Rattle.rack.specs.Racks.{wordsFrom, Accepted, size, SoundAsHeld, BrokenAsSent, recordOf};
+ghost use Rattle.rack.specs.Racks.{wordsFrom, Accepted, size, SoundAsHeld, BrokenAsSent, Receives, recordOf};
 
 pub mod broken; // broken.rt: the broken set
 
@@ -35,7 +35,8 @@ pub fn copy_words(from: &[u16], at: usize, to: &mut [u16], place: usize, count: 
 // broken card in order, W words".
 fn hear(rack: Rack, sent: &[u16], v: u32, heard: &mut [u16])
     requires { ⌜ (Accepted rack (length (now heard)) (length (now sent)) (length (now heard))) × (v < rack .n) ⌝ }
-    ensures { λ _. ⌜ (SoundAsHeld rack (now (heard .entry)) (now (heard .exit))) × (BrokenAsSent rack (now (sent .entry)) v (rack .n) (now (heard .exit))) ⌝ }
+    ensures { λ _. ⌜ (SoundAsHeld rack (now (heard .entry)) (now (heard .exit)))
+        × (BrokenAsSent rack (now (sent .entry)) v (rack .n) (now (heard .exit))) ⌝ }
 {
     let n = rack.n;
     let w = params::record_words(rack.f);
@@ -57,8 +58,9 @@ fn hear(rack: Rack, sent: &[u16], v: u32, heard: &mut [u16])
 
 // Writes the record of the card v after the beat: "Broken cards' held records stay unchanged."
 fn put_record(rack: Rack, held: &[u16], sent: &[u16], v: u32, heard: &mut [u16], out: &mut [u16])
-    requires { ⌜ (Accepted rack (length (now held)) (length (now sent)) (length (now out))) × (v < rack .n) × (length (now heard) ≡ length (now held)) × (SoundAsHeld rack (now held) (now heard)) ⌝ }
-    ensures { λ _. ⌜ (now (out .exit) ≡ sets (now (out .entry)) (v * size rack) (recordOf rack (now (held .entry)) (now (sent .entry)) v)) × (SoundAsHeld rack (now (held .entry)) (now (heard .exit))) ⌝ }
+    requires { ⌜ Receives rack (now held) (now sent) (now heard) (now out) v ⌝ }
+    ensures { λ _. ⌜ (now (out .exit) ≡ sets (now (out .entry)) (v * size rack) (recordOf rack (now (held .entry)) (now (sent .entry)) v))
+        × (SoundAsHeld rack (now (held .entry)) (now (heard .exit))) ⌝ }
 {
     let w = params::record_words(rack.f) as usize;
     let at = v as usize * w;
@@ -109,7 +111,8 @@ fn beat_refusal(n: u32, f: u32, c: u32, set: u32, held: usize, sent: usize, out:
 
 // The whole beat: the n records after it, from those held and the words that the broken cards send.
 pub fn beat(n: u32, f: u32, c: u32, broken: u32, held: &[u16], sent: &[u16], out: &mut [u16]) -> u32
-    ensures { λ r. ⌜ (r ≡ beatRefusal n f c broken (length (now (held .entry))) (length (now (sent .entry))) (length (now (out .entry)))) × (now (out .exit) ≡ beatOut n f c broken (now (held .entry)) (now (sent .entry)) (now (out .entry))) ⌝ }
+    ensures { λ r. ⌜ (r ≡ beatRefusal n f c broken (length (now (held .entry))) (length (now (sent .entry))) (length (now (out .entry))))
+        × (now (out .exit) ≡ beatOut n f c broken (now (held .entry)) (now (sent .entry)) (now (out .entry))) ⌝ }
 {
     let refusal = beat_refusal(n, f, c, broken, held.len(), sent.len(), out.len());
     if refusal != 0 {

@@ -11,11 +11,13 @@ use Rattle.frames.proofs.Stores.{prefix-stored}
 
 -- one more of a part is stored
 pub one-kept : (line piece : List ℕ) (held from i : ℕ) → from + i < length piece
-    → set (sets line held (take i (drop from piece))) (held + i) (getD piece (from + i) 0) ≡ sets line held (take (i + 1) (drop from piece))
+    → set (sets line held (take i (drop from piece))) (held + i) (getD piece (from + i) 0)
+    ≡ sets line held (take (i + 1) (drop from piece))
 one-kept line piece held from i l =
     let d = drop from piece in
     let n : length (take i d) ≡ i = length-take-le i d (omega (arith, length-drop from piece)) in
-    rw (add-one i, take-suc d i 0 (omega (arith, length-drop from piece)), sets-append (take i d) (getD d i 0 ∷ []) line held, n, getD-drop from piece i 0)
+    let l : i < length d = omega (arith, length-drop from piece) in
+    rw (add-one i, take-suc d i 0 l, sets-append (take i d) (getD d i 0 ∷ []) line held, n, getD-drop from piece i 0)
 
 -- what is stored at the start of a buffer is taken from there
 pub first-taken : (buffer words : List ℕ) (k : ℕ) → length words ≡ k → k ≤ length buffer → take k (sets buffer 0 words) ≡ words

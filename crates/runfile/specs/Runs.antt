@@ -1,16 +1,23 @@
 -- A run as it is kept, in a struct and in the caller's table, by the rules' own runs.
-use Prim.Native.Nat.{ℕ}
+use Prim.Native.Nat.{ℕ, _≤_}
 use mathlib.Core.Path.{_≡_}
 use mathlib.Core.List.{List, []}
 use lib.ListN.{length, take}
 use lib.Seq.{sets}
 use Rattle.rules.specs.WholeBeat.{tableAfter}
 use Rattle.rules.specs.Text.{wordsAt}
-use Rattle.rules.specs.RunFile.{Header, headerTests, Stage, atHeader, atStart, atBeat, Taken, accepted, refused, startWords, beatWords, orRefused, takeLine}
+use Rattle.rules.specs.RunFile.{Header, headerTests, startWords, beatWords}
+use Rattle.rules.specs.RunFile.{Stage, atHeader, atStart, atBeat, Taken, accepted, refused, orRefused, takeLine}
+use Rattle.frames.specs.declared.header.Header.{Header as KeptHeader}
 use Rattle.frames.specs.Headers.{said, kept}
 use Rattle.runfile.specs.declared.Stage.{Stage as KeptStage}
 use Rattle.runfile.specs.declared.Stage.the-variants.{AtHeader, AtStart, AtBeat}
 use Rattle.runfile.specs.declared.Taken.{Taken as Answer}
+
+-- a run past line 1: its header passes its tests, and the table has room for any rack
+pub record Running (h : KeptHeader) (table : List ℕ) : Type 0 where
+  pub passes : headerTests (said h) ≡ 0
+  pub room : 400 ≤ length table
 
 -- where the run stands: the n records are the first words of the table
 unfoldable pub stageOf : KeptStage → List ℕ → Stage

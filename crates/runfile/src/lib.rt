@@ -6,9 +6,9 @@ ghost use Prim.Native.Nat.{_≤_};
 ghost use lib.ListN.{length};
 ghost use lib.Seq.{sets};
 ghost use Rattle.rules.specs.Text.{wellFormed};
-ghost use Rattle.rules.specs.RunFile.{headerTests, frameDigits, beatWords, takeLine, atHeader, atStart};
+ghost use Rattle.rules.specs.RunFile.{frameDigits, beatWords, takeLine, atHeader, atStart};
 ghost use Rattle.frames.specs.Headers.{said};
-ghost use Rattle.runfile.specs.Runs.{keptTests, answerOf, stageOf, recordsAfter, tableNext, takenLine, Takes};
+ghost use Rattle.runfile.specs.Runs.{keptTests, answerOf, stageOf, recordsAfter, tableNext, takenLine, Running, Takes};
 use frames::frame;
 use frames::header;
 use frames::header::Header;
@@ -61,8 +61,9 @@ fn take_header(line: &[u8]) -> Taken
 
 // "Line 2: beat 0000, then n records."
 fn take_start(h: Header, line: &[u8], table: &mut [u16], out: &mut [u8; 69]) -> Taken
-    requires { ⌜ (headerTests (said h) ≡ 0) × (400 ≤ length (now table)) ⌝ }
-    ensures { λ r. ⌜ Takes (Stage.AtStart h) (takeLine (atStart (said h)) (now (line .entry))) (now (table .entry)) (now (out .entry)) r (now (table .exit)) (now (out .exit)) ⌝ }
+    requires { ⌜ Running h (now table) ⌝ }
+    ensures { λ r. ⌜ Takes (Stage.AtStart h) (takeLine (atStart (said h)) (now (line .entry)))
+        (now (table .entry)) (now (out .entry)) r (now (table .exit)) (now (out .exit)) ⌝ }
 {
     let refusal = frame::start_line_refusal(h, line);
     if refusal != 0 {
@@ -98,7 +99,7 @@ fn room_for_line() -> [u16; 2000]
 
 // The records after a beat, in the place of those before it.
 fn beat_records(h: Header, sent: &[u16], table: &mut [u16])
-    requires { ⌜ (headerTests (said h) ≡ 0) × (length (now sent) ≡ beatWords (said h)) × (400 ≤ length (now table)) ⌝ }
+    requires { ⌜ (Running h (now table)) × (length (now sent) ≡ beatWords (said h)) ⌝ }
     ensures { λ _. ⌜ now (table .exit) ≡ sets (now (table .entry)) 0 (recordsAfter (said h) (now (table .entry)) (now (sent .entry))) ⌝ }
 {
     let words = frame::start_words(h);
@@ -117,7 +118,7 @@ fn beat_records(h: Header, sent: &[u16], table: &mut [u16])
 
 // The same, with the words that the broken cards send on a line.
 fn next_table(h: Header, line: &[u8], table: &mut [u16])
-    requires { ⌜ (headerTests (said h) ≡ 0) × (wellFormed (frameDigits (beatWords (said h))) (now line) ≡ true) × (400 ≤ length (now table)) ⌝ }
+    requires { ⌜ (Running h (now table)) × (wellFormed (frameDigits (beatWords (said h))) (now line) ≡ true) ⌝ }
     ensures { λ _. ⌜ now (table .exit) ≡ sets (now (table .entry)) 0 (tableNext (said h) (now (table .entry)) (now (line .entry))) ⌝ }
 {
     let count = frame::beat_words(h);
@@ -128,8 +129,9 @@ fn next_table(h: Header, line: &[u8], table: &mut [u16])
 
 // "Each later line: its beat, then the broken cards' words for that beat."
 fn take_beat(h: Header, beat: u16, line: &[u8], table: &mut [u16], out: &mut [u8; 69]) -> Taken
-    requires { ⌜ (headerTests (said h) ≡ 0) × (400 ≤ length (now table)) ⌝ }
-    ensures { λ r. ⌜ Takes (Stage.AtBeat h beat) (takeLine (stageOf (Stage.AtBeat h beat) (now (table .entry))) (now (line .entry))) (now (table .entry)) (now (out .entry)) r (now (table .exit)) (now (out .exit)) ⌝ }
+    requires { ⌜ Running h (now table) ⌝ }
+    ensures { λ r. ⌜ Takes (Stage.AtBeat h beat) (takeLine (stageOf (Stage.AtBeat h beat) (now (table .entry))) (now (line .entry)))
+        (now (table .entry)) (now (out .entry)) r (now (table .exit)) (now (out .exit)) ⌝ }
 {
     let refusal = frame::beat_line_refusal(h, beat, line);
     if refusal != 0 {
@@ -152,7 +154,8 @@ fn take_beat(h: Header, beat: u16, line: &[u8], table: &mut [u16], out: &mut [u8
 // One line, of a table that is long enough for any rack.
 pub fn line_taken(stage: Stage, line: &[u8], table: &mut [u16], out: &mut [u8; 69]) -> Taken
     requires { ⌜ 400 ≤ length (now table) ⌝ }
-    ensures { λ r. ⌜ Takes stage (takenLine (stageOf stage (now (table .entry))) (now (line .entry))) (now (table .entry)) (now (out .entry)) r (now (table .exit)) (now (out .exit)) ⌝ }
+    ensures { λ r. ⌜ Takes stage (takenLine (stageOf stage (now (table .entry))) (now (line .entry)))
+        (now (table .entry)) (now (out .entry)) r (now (table .exit)) (now (out .exit)) ⌝ }
 {
     let refusal = stage_tests(stage);
     if refusal != 0 {
@@ -171,7 +174,8 @@ pub fn line_taken(stage: Stage, line: &[u8], table: &mut [u16], out: &mut [u8; 6
 
 // Takes one line: it is accepted, and its output line is written, or it is refused, and nothing is.
 pub fn take_line(stage: Stage, line: &[u8], table: &mut [u16; 400], out: &mut [u8; 69]) -> Taken
-    ensures { λ r. ⌜ Takes stage (takenLine (stageOf stage (now (table .entry))) (now (line .entry))) (now (table .entry)) (now (out .entry)) r (now (table .exit)) (now (out .exit)) ⌝ }
+    ensures { λ r. ⌜ Takes stage (takenLine (stageOf stage (now (table .entry))) (now (line .entry)))
+        (now (table .entry)) (now (out .entry)) r (now (table .exit)) (now (out .exit)) ⌝ }
 {
     line_taken(stage, line, table, out)
 }

@@ -38,4 +38,8 @@ same-place : (a b : Place) → a .found ≡ b .found → a .start ≡ b .start �
 same-place a b found start end = λ i. record { found = found i; start = start i; end = end i }
 
 pub place-determined : Determined place-kinds.ps place-kinds.r place-reads.Pre place-reads.Post
-place-determined = (λ κs a. tt, λ κs a x y v w p q. (same-place x y (only-one (p .found) (q .found)) (only-one (p .start) (q .start)) (only-one (p .end) (q .end)), refl))
+place-determined = (
+  λ κs a. tt,
+  λ κs a x y v w p q.
+      (same-place x y (only-one (p .found) (q .found)) (only-one (p .start) (q .start)) (only-one (p .end) (q .end)), refl),
+)

@@ -20,7 +20,8 @@ pub feed-here : (text : List ℕ) (i : ℕ) → i < length text → getD text i 
 unfolding lineLength
 feed-here text i l e = rw (drop-cons text i 0 l, eq-eqb _ _ e)
 
-pub no-feed-here : (text : List ℕ) (i : ℕ) → i < length text → (getD text i 0 ≡ lineFeed → ⊥) → lineLength (drop i text) ≡ lineLength (drop (i + 1) text) + 1
+pub no-feed-here : (text : List ℕ) (i : ℕ) → i < length text → (getD text i 0 ≡ lineFeed → ⊥)
+    → lineLength (drop i text) ≡ lineLength (drop (i + 1) text) + 1
 unfolding lineLength
 no-feed-here text i l h = rw (drop-cons text i 0 l, ne-eqb _ _ h, add-one i, add-one)
 
@@ -39,8 +40,10 @@ length-fits (ch ∷ rest) = ⊎-elim
 pub end-within : (text : List ℕ) (start : ℕ) → start ≤ length text → endFrom text start ≤ length text
 end-within text start l = omega (arith, length-fits (drop start text), length-drop start text)
 
-part-length : (text : List ℕ) (start : ℕ) → start ≤ length text → length (take (endFrom text start - start) (drop start text)) ≡ endFrom text start - start
-part-length text start l = length-take-le (endFrom text start - start) (drop start text) (omega (arith, length-drop start text, end-within text start l))
+part-length : (text : List ℕ) (start : ℕ) → start ≤ length text
+    → length (take (endFrom text start - start) (drop start text)) ≡ endFrom text start - start
+part-length text start l =
+    length-take-le (endFrom text start - start) (drop start text) (omega (arith, length-drop start text, end-within text start l))
 
 -- the first line of a text that has a character, and the others
 first-line : (t : List ℕ) → 0 < length t → linesOf t ≡ take (lineLength t) t ∷ linesOf (drop (suc (lineLength t)) t)
@@ -64,7 +67,8 @@ lines-from text start l =
 -- one line is passed, with its line feed
 pub one-passed : (text : List ℕ) (start left m : ℕ) → start < length text → suc m ≡ left
     → (drop m (linesOf (drop (endFrom text start + 1) text)) ≡ drop left (linesOf (drop start text)))
-    × (endFrom text start + 1 + spanOf (take m (linesOf (drop (endFrom text start + 1) text))) ≡ start + spanOf (take left (linesOf (drop start text))))
+    × (endFrom text start + 1 + spanOf (take m (linesOf (drop (endFrom text start + 1) text)))
+    ≡ start + spanOf (take left (linesOf (drop start text))))
 unfolding spanOf
 one-passed text start left m l e = rw (← e, lines-from text start l) (refl, omega (arith, part-length text start (omega arith)))
 
@@ -75,7 +79,8 @@ unfolding hasLine lineAt
 line-there k text line others l e =
     let n : length (linesOf text) - (k - 1) ≡ suc (length others) = sym (length-drop (k - 1) (linesOf text)) ∙ ap length e in
     let h : leb k (length (linesOf text)) ≡ true = le-leb k (length (linesOf text)) (omega arith) in
-    let g : getD (drop (k - 1) (linesOf text)) 0 [] ≡ getD (linesOf text) (k - 1) [] = rw add-zero at (getD-drop (k - 1) (linesOf text) 0 []) in
+    let g : getD (drop (k - 1) (linesOf text)) 0 [] ≡ getD (linesOf text) (k - 1) [] =
+    rw add-zero at (getD-drop (k - 1) (linesOf text) 0 []) in
     (rw (le-leb 1 k l, h), rw (le-leb 1 k l, h) (sym g ∙ ap (λ (ls : List (List ℕ)). getD ls 0 []) e))
 
 -- no line k, where none is left
@@ -87,7 +92,8 @@ no-line k text l e =
 
 -- where line k stands, once the k - 1 lines before it are passed
 pub line-stands : (k : ℕ) (text : List ℕ) (start left : ℕ) → 0 < k → start < length text → left ≡ 0
-    → drop left (linesOf (drop start text)) ≡ drop (k - 1) (linesOf text) → start + spanOf (take left (linesOf (drop start text))) ≡ spanOf (take (k - 1) (linesOf text))
+    → drop left (linesOf (drop start text)) ≡ drop (k - 1) (linesOf text)
+    → start + spanOf (take left (linesOf (drop start text))) ≡ spanOf (take (k - 1) (linesOf text))
     → Placed k text (record { found = true; start = start; end = endFrom text start })
 unfolding startOf spanOf
 line-stands k text start left l inside none here passed =

@@ -27,13 +27,15 @@ written-formed words =
     (digits-rows (length words) (λ (i : ℕ). hexOf 4 (getD words i 0)) (λ i. hex-digits 4 (getD words i 0)))
 
 -- what is written reads back: words of 16 bits are kept as they are, in range or not
-pub reads-back : (words : List ℕ) → ((i : ℕ) → i < length words → getD words i 0 < 65536) → wordsAt (textOf words) 0 (length words) ≡ words
+pub reads-back : (words : List ℕ) → ((i : ℕ) → i < length words → getD words i 0 < 65536)
+    → wordsAt (textOf words) 0 (length words) ≡ words
 reads-back words h =
     ext-getD 0 (wordsAt (textOf words) 0 (length words)) words (words-length (textOf words) 0 (length words)) (λ i l.
     let li : i < length words = omega (arith, words-length (textOf words) 0 (length words)) in
     let w = getD words i 0 in
     word-in (textOf words) 0 (length words) i li
-    ∙ number-same (textOf words) (hexOf 4 w) (0 + 4 * i) 0 4 (λ j lj. digit-in words i (0 + j) (0 + 4 * i + j) (omega arith) li (omega arith))
+    ∙ number-same (textOf words) (hexOf 4 w) (0 + 4 * i) 0 4
+    (λ j lj. digit-in words i (0 + j) (0 + 4 * i + j) (omega arith) li (omega arith))
     ∙ number-of-hex 4 w (h i li))
 
 -- no second text: a text that is read is the text of what it reads as
@@ -49,10 +51,17 @@ no-second-text k text e =
     let at : ℕ = 0 + 4 * i in
     let q : at + p % 4 ≡ p = omega arith in
     digit-in words i (p % 4) p (omega arith) (omega arith) (omega arith)
-    ∙ rw (word-in text 0 k i li, hex-of-number text at 4 (t .1) (omega arith), getD-take 4 (drop at text) (p % 4) 0 (omega arith), getD-drop at text (p % 4) 0, q))
+    ∙ rw (
+      word-in text 0 k i li,
+      hex-of-number text at 4 (t .1) (omega arith),
+      getD-take 4 (drop at text) (p % 4) 0 (omega arith),
+      getD-drop at text (p % 4) 0,
+      q,
+    ))
 
 -- so two texts that read as the same record are the same
-pub same-record-same-text : (k : ℕ) (s t : List ℕ) → wellFormed (4 * k) s ≡ true → wellFormed (4 * k) t ≡ true → wordsAt s 0 k ≡ wordsAt t 0 k → s ≡ t
+pub same-record-same-text : (k : ℕ) (s t : List ℕ) → wellFormed (4 * k) s ≡ true → wellFormed (4 * k) t ≡ true
+    → wordsAt s 0 k ≡ wordsAt t 0 k → s ≡ t
 same-record-same-text k s t p q e = sym (no-second-text k s p) ∙ ap textOf e ∙ no-second-text k t q
 
 -- a word that is read has 16 bits
@@ -83,7 +92,8 @@ read-is-written n f text back out e m =
     let q = not-given 2 (badBroken n f) _ (omega arith) (p .1) in
     let t = read-accepted n f text (length back) e in
     let size = eq-eqb (length (wordsAt text 0 (recordWords f))) (recordWords f) (words-length text 0 (recordWords f)) in
-    let w : writeRefusal n f (length (wordsAt text 0 (recordWords f))) (length out) ≡ 0 = rw (p .0, q .0, size, eq-eqb (length out) (4 * recordWords f) m) in
+    let w : writeRefusal n f (length (wordsAt text 0 (recordWords f))) (length out) ≡ 0 =
+    rw (p .0, q .0, size, eq-eqb (length out) (4 * recordWords f) m) in
     rw (e, w) (refl, no-second-text (recordWords f) text (t .1))
 
 -- so no second text is read as the same record
@@ -91,4 +101,6 @@ pub no-second-text-read : (n f : ℕ) (s t back other : List ℕ) → readRefusa
     → readOut n f s back ≡ readOut n f t other → s ≡ t
 unfolding readOut
 no-second-text-read n f s t back other p q e =
-    same-record-same-text (recordWords f) s t (read-accepted n f s (length back) p .1) (read-accepted n f t (length other) q .1) (rw (p, q) at e)
+    let first = read-accepted n f s (length back) p in
+    let second = read-accepted n f t (length other) q in
+    same-record-same-text (recordWords f) s t (first .1) (second .1) (rw (p, q) at e)

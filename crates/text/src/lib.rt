@@ -48,7 +48,8 @@ fn read_refusal(n: u32, f: u32, text: &[u8], out: usize) -> u32
 
 // Writes a record as text: "its W words and nothing else, kept as they are, in range or not".
 pub fn write_record(n: u32, f: u32, words: &[u16], out: &mut [u8]) -> u32
-    ensures { λ r. ⌜ (r ≡ writeRefusal n f (length (now (words .entry))) (length (now (out .entry)))) × (now (out .exit) ≡ writeOut n f (now (words .entry)) (now (out .entry))) ⌝ }
+    ensures { λ r. ⌜ (r ≡ writeRefusal n f (length (now (words .entry))) (length (now (out .entry))))
+        × (now (out .exit) ≡ writeOut n f (now (words .entry)) (now (out .entry))) ⌝ }
 {
     let refusal = write_refusal(n, f, words.len(), out.len());
     if refusal != 0 {
@@ -60,7 +61,8 @@ pub fn write_record(n: u32, f: u32, words: &[u16], out: &mut [u8]) -> u32
 
 // Reads a text as a record.
 pub fn read_record(n: u32, f: u32, text: &[u8], out: &mut [u16]) -> u32
-    ensures { λ r. ⌜ (r ≡ readRefusal n f (now (text .entry)) (length (now (out .entry)))) × (now (out .exit) ≡ readOut n f (now (text .entry)) (now (out .entry))) ⌝ }
+    ensures { λ r. ⌜ (r ≡ readRefusal n f (now (text .entry)) (length (now (out .entry))))
+        × (now (out .exit) ≡ readOut n f (now (text .entry)) (now (out .entry))) ⌝ }
 {
     let refusal = read_refusal(n, f, text, out.len());
     if refusal != 0 {
@@ -73,7 +75,8 @@ pub fn read_record(n: u32, f: u32, text: &[u8], out: &mut [u16]) -> u32
 // Line k, "counted from 1": "the part without its line feed, and an empty part if there is no such line". The contract says
 // what the part holds and where in the caller's own text it begins.
 pub fn line(text: &[u8], k: u32) -> &[u8]
-    ensures { λ r. ⌜ (now r ≡ lineAt k (now (text .entry))) × (ptr r ≡ (ptr (text .entry) .0, startOf k (now (text .entry)) + ptr (text .entry) .1)) ⌝ }
+    ensures { λ r. ⌜ (now r ≡ lineAt k (now (text .entry)))
+        × (ptr r ≡ (ptr (text .entry) .0, startOf k (now (text .entry)) + ptr (text .entry) .1)) ⌝ }
 {
     let place = lines::place_of(text, k);
     let start = place.start;

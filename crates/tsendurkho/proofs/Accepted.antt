@@ -60,7 +60,8 @@ pub step-same : (n f c card size : ℕ) (records out next : List ℕ) → stepBy
 unfolding stepOut stepBytesOut
 step-same n f c card size records out next z er eo =
     let s = accepted n f c card (length records) (length out) z in
-    let table : length (tabulate size (wordAt records)) ≡ n * recordWords f = omega (arith, tabulate-length size (wordAt records), s .records-whole) in
+    let table : length (tabulate size (wordAt records)) ≡ n * recordWords f =
+    omega (arith, tabulate-length size (wordAt records), s .records-whole) in
     let words : length next ≡ recordWords f = omega (arith, s .out-whole) in
     rw (table, words, s .on-words, z)
     (ap (λ (hear : ℕ → ℕ → ℕ). bytesOf (nextRecord n f c hear card)) (heard-same (recordWords f) records size er))

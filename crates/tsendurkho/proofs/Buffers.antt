@@ -9,6 +9,7 @@ use lib.Seq.{length-take-le}
 use Rattle.rules.specs.Parameters.{recordWords}
 use Rattle.rules.specs.Refusals.{stepRefusal, stepBytesRefusal}
 use Rattle.rules.proofs.Records.{words-most}
+use Rattle.tsendurkho.specs.Buffers.{StepBuffers}
 use Rattle.tsendurkho.proofs.Accepted.{StepBytes, accepted}
 
 -- the front of an array of zeros, with a word for two bytes
@@ -41,7 +42,8 @@ pub record Buffers (n f c card size records out : ℕ) : Type 0 where
   pub next : Lent 25 out
   pub accepts : stepRefusal n f c card (length (front size records)) (length (front 25 out)) ≡ 0
 
-pub buffers : (n f c card size records out : ℕ) → stepBytesRefusal n f c card records out ≡ 0 → (StepBytes n f c card records out → n * recordWords f ≤ size)
+pub buffers : (n f c card size records out : ℕ) → stepBytesRefusal n f c card records out ≡ 0
+    → (StepBytes n f c card records out → n * recordWords f ≤ size)
     → Buffers n f c card size records out
 buffers n f c card size records out z room =
     let s = accepted n f c card records out z in
@@ -50,3 +52,8 @@ buffers n f c card size records out z room =
     let t : length (front size records) ≡ n * recordWords f = omega (arith, table .whole, s .records-whole) in
     let w : length (front 25 out) ≡ recordWords f = omega (arith, next .whole, s .out-whole) in
     record { table = table; next = next; accepts = rw (t, w) (s .on-words) }
+
+pub on-words : {n f c card size : ℕ} (records out : List ℕ) → Buffers n f c card size (length records) (length out)
+    → StepBuffers n f c card records out (front size (length records)) (front 25 (length out))
+on-words records out b =
+    record { heard-whole = b .table .whole; next-whole = b .next .whole; accepted = b .accepts; zeros = b .next .zeros }

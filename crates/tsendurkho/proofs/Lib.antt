@@ -1,4 +1,3 @@
-pub mod Lengths
 pub mod Accepted
 pub mod Buffers
 pub mod Determined

@@ -1,12 +1,15 @@
 // What C and Rust reach: one card's step and the lag, "on numbers and byte slices, two bytes a word, low byte first".
 ghost use mathlib.Core.Path.{_≡_};
-ghost use Prim.Native.Nat.{_*_, _≤_};
-ghost use lib.ListN.{length, replicate};
+ghost use Prim.Native.Nat.{_≤_};
+ghost use lib.ListN.{length};
 ghost use Rattle.rules.specs.Counting.{tabulate};
 ghost use Rattle.rules.specs.Bytes.{wordAt, bytesOf};
-ghost use Rattle.rules.specs.Refusals.{stepRefusal, stepBytesRefusal, lagRefusal};
+ghost use Rattle.rules.specs.Refusals.{stepBytesRefusal, lagRefusal};
 ghost use Rattle.rules.specs.Calls.{stepOut, stepBytesOut, lagAnswer};
-ghost use Rattle.tsendurkho.specs.Lengths.{wordsIn};
+ghost use Rattle.tsendurkho.specs.Buffers.{StepBuffers};
+
+// Lengths in bytes, two to a word: "An odd number of bytes is a wrong length." (RULES 10.1)
+const BYTES: u8 = 2;
 
 // W of the largest f, and n·W of the largest n.
 const MOST_WORDS: usize = 25;
@@ -15,20 +18,6 @@ const MOST_TABLE: usize = 400;
 
 // n·W of 7 cards with f = 1, and one more.
 const FEW_WORDS: usize = 64;
-
-// How many words some bytes are. 0, which is the length of no record, for an odd number of them: RULES 10.1.
-fn words_in(bytes: usize) -> usize
-    ensures { λ r. ⌜ r ≡ wordsIn bytes ⌝ }
-{
-    if bytes % 2 == 0 { bytes / 2 } else { 0 }
-}
-
-// Refusals 1, 2, 3, 4, 5, 6, of lengths in bytes.
-fn step_refusal(n: u32, f: u32, c: u32, card: u32, records: usize, out: usize) -> u32
-    ensures { λ r. ⌜ r ≡ stepBytesRefusal n f c card records out ⌝ }
-{
-    card::step_refusal(n, f, c, card, words_in(records), words_in(out))
-}
 
 // The step by way of words, where it is not refused: those of the records heard, and those of the next record.
 fn step_words(
@@ -41,8 +30,9 @@ fn step_words(
     next: &mut [u16],
     out: &mut [u8],
 )
-    requires { ⌜ (length (now records) ≡ 2 * length (now heard)) × (length (now out) ≡ 2 * length (now next)) × (stepRefusal n f c card (length (now heard)) (length (now next)) ≡ 0) × (now next ≡ replicate (length (now next)) 0) ⌝ }
-    ensures { λ _. ⌜ now (out .exit) ≡ bytesOf (stepOut n f c card (tabulate (length (now (heard .entry))) (wordAt (now (records .entry)))) (now (next .entry))) ⌝ }
+    requires { ⌜ StepBuffers n f c card (now records) (now out) (now heard) (now next) ⌝ }
+    ensures { λ _. ⌜ now (out .exit) ≡ bytesOf
+        (stepOut n f c card (tabulate (length (now (heard .entry))) (wordAt (now (records .entry)))) (now (next .entry))) ⌝ }
 {
     wordbytes::decode(records, heard);
     card::put_next(n, f, c, card, heard, next);
@@ -101,9 +91,10 @@ pub extern "C" fn tsendurkho_step(
     records: &[u8],
     out: &mut [u8],
 ) -> u32
-    ensures { λ r. ⌜ (r ≡ stepBytesRefusal n f c card (length (now (records .entry))) (length (now (out .entry)))) × (now (out .exit) ≡ stepBytesOut n f c card (now (records .entry)) (now (out .entry))) ⌝ }
+    ensures { λ r. ⌜ (r ≡ stepBytesRefusal n f c card (length (now (records .entry))) (length (now (out .entry))))
+        × (now (out .exit) ≡ stepBytesOut n f c card (now (records .entry)) (now (out .entry))) ⌝ }
 {
-    let refusal = step_refusal(n, f, c, card, records.len(), out.len());
+    let refusal = card::step_refusal(n, f, c, card, BYTES, records.len(), out.len());
     if refusal != 0 {
         return refusal;
     }

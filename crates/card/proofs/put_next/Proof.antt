@@ -11,7 +11,8 @@ use Rattle.card.proofs.put_next.Statement.{statement}
 use Rattle.card.proofs.put_next.Tie as tie
 
 good : (c : tie.Start)
-    → Step (c .args .n) (c .args .f) (c .args .c) (c .args .card) (length (c .args .records .now)) (length (c .args .out .now))
+    → let a = c .args in
+    Step (a .n) (a .f) (a .c) (a .card) (length (a .records .now)) (length (a .out .now))
 good c =
     let a = c .args in
     step-accepted (a .n) (a .f) (a .c) (a .card) (length (a .records .now)) (length (a .out .now)) (c .pre .0)
@@ -35,7 +36,8 @@ returns c =
     let a = s .args in
     let w = p .before .record-words in
     rw (s .pre .0)
-    (record-is (a .n) (a .f) (a .c) (a .card) (w .result) (a .records .now) (a .out .now) _ (w .ensures) (s .pre .1 ∙ rw (good s .out-whole, w .ensures))
+    (record-is (a .n) (a .f) (a .c) (a .card) (w .result) (a .records .now) (a .out .now) _
+    (w .ensures) (s .pre .1 ∙ rw (good s .out-whole, w .ensures))
     (c .before .before .step-group .ensures (suc (a .f)) (omega arith)))
 
 pub put-next-spec : {M : Type 1} → statement M

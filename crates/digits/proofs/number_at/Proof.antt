@@ -21,11 +21,15 @@ loop-holds c = (omega arith, refl)
 
 -- the number with one digit more fits
 below : (c : tie.In-loop Inv-loop μ-loop)
-    → 16 * c .before .loop .number + valueOf (getD (c .before .before .before .args .text .now) (c .before .before .before .args .at + c .before .loop .i) 0) < 16 ^ 8
+    → let l = c .before in
+    let a = l .before .before .args in
+    16 * l .loop .number + valueOf (getD (a .text .now) (a .at + l .loop .i) 0) < 16 ^ 8
 below c =
-    let a = c .before .before .before .args in
+    let s = c .before .before .before in
+    let a = s .args in
     let i = c .before .loop .i in
-    omega (arith, number-more (a .text .now) (a .at) i, number-within (a .text .now) (a .at) (i + 1) 8 (c .before .before .before .pre .0) (omega arith) (omega arith))
+    let most = number-within (a .text .now) (a .at) (i + 1) 8 (s .pre .0 .digits-alone) (omega arith) (omega arith) in
+    omega (arith, number-more (a .text .now) (a .at) i, most)
 
 loop-again : tie.Need-loop-again Inv-loop μ-loop
 loop-again c =
@@ -35,7 +39,8 @@ loop-again c =
 
 returns : tie.Need-returns Inv-loop μ-loop
 returns c =
-    let e : c .before .loop .i ≡ c .before .before .before .args .digits = omega arith in
+    let l = c .before in
+    let e : l .loop .i ≡ l .before .before .args .digits = omega arith in
     cc
 
 pub number-at-spec : {M : Type 1} → statement M
@@ -48,7 +53,7 @@ number-at-spec =
     (λ c. omega (arith, below c))
     (λ c. search needs)
     (λ c. search needs)
-    (λ c κs. digit-at _ (c .before .before .before .before .pre .0) _ (omega arith))
+    (λ c κs. let s = c .before .before .before .before in digit-at _ (s .pre .0 .digits-alone) _ (omega arith))
     (λ c. omega (arith, below (c .before .before)))
     (λ c. search needs)
     (λ c. search needs)

@@ -14,7 +14,7 @@ use Rattle.lag.proofs.lag_of.Statement.{statement}
 use Rattle.lag.proofs.lag_of.Tie as tie
 
 -- what is known once nothing is refused
-good : (c : tie.Else1) → Inputs (c .before .before .args .c) (c .before .before .args .x) (c .before .before .args .y)
+good : (c : tie.Else1) → let a = c .before .before .args in Inputs (a .c) (a .x) (a .y)
 good c = let a = c .before .before .args in accepted (a .c) (a .x) (a .y) (sym (c .before .lag-refusal .ensures) ∙ c .if1 .left)
 
 returns : tie.Need-returns
@@ -22,31 +22,34 @@ unfolding lagAnswer
 returns c = rw (← (c .before .lag-refusal .ensures), ne-eqb _ _ (c .if1 .taken))
 
 turn-ahead-requires : tie.Need-turn-ahead-requires
-turn-ahead-requires c κs = let g = good c in omega arith
+turn-ahead-requires c κs = let g = good c in record { x-below = g .x-below; y-below = g .y-below; most = g .most }
 
 mul-if2 : tie.Need-mul-if2
 mul-if2 c = omega (arith, good (c .before) .most)
 
 minus-result : tie.Need-sub-result-2
 minus-result c =
-    minus-fits (c .before .before .before .before .args .c - c .before .turn-ahead .result) (omega (arith, good (c .before .before) .most))
+    let e = c .before .before in
+    minus-fits (e .before .before .args .c - c .before .turn-ahead .result) (omega (arith, good e .most))
 
 forward : tie.Need-returns-2
 unfolding lagAnswer
 forward c =
-    let a = c .before .before .before .before .args in
+    let e = c .before .before in
+    let a = e .before .before .args in
     let d = c .before .turn-ahead .result in
-    rw (← (c .before .before .before .lag-refusal .ensures), eq-eqb _ _ (c .before .before .if1 .left))
-    (toZ-pos w32 (omega (arith, good (c .before .before) .most))
+    rw (← (e .before .lag-refusal .ensures), eq-eqb _ _ (e .if1 .left))
+    (toZ-pos w32 (omega (arith, good e .most))
     ∙ sym (lag-on (a .c) (a .x) (a .y) d (sym (c .before .turn-ahead .ensures .1)) (omega arith)))
 
 back : tie.Need-returns-3
 unfolding lagAnswer
 back c =
-    let a = c .before .before .before .before .args in
+    let e = c .before .before in
+    let a = e .before .before .args in
     let d = c .before .turn-ahead .result in
-    rw (← (c .before .before .before .lag-refusal .ensures), eq-eqb _ _ (c .before .before .if1 .left))
-    (minus-is (a .c - d) (omega (arith, good (c .before .before) .most))
+    rw (← (e .before .lag-refusal .ensures), eq-eqb _ _ (e .if1 .left))
+    (minus-is (a .c - d) (omega (arith, good e .most))
     ∙ sym (lag-back (a .c) (a .x) (a .y) d (a .c - d) (sym (c .before .turn-ahead .ensures .1)) (omega arith) (omega arith)))
 
 pub lag-of-spec : {M : Type 1} → statement M

@@ -12,5 +12,7 @@ lag-refusal-spec =
     (λ c κs. search needs)
     (λ c. simp (sym (c .before .modulus-refused .ensures) ∙ c .if1 .taken))
     (λ c. simp (sym (c .before .before .modulus-refused .ensures) ∙ c .before .if1 .left, le-leb _ _ (c .if2 .taken)))
-    (λ c. simp (sym (c .before .before .before .modulus-refused .ensures) ∙ c .before .before .if1 .left, lt-leb _ _ (c .before .if2 .left), le-leb _ _ (c .if3 .taken)))
-    (λ c. simp (sym (c .before .before .before .modulus-refused .ensures) ∙ c .before .before .if1 .left, lt-leb _ _ (c .before .if2 .left), lt-leb _ _ (c .if3 .left))))
+    (λ c. let m = c .before .before in
+    simp (sym (m .before .modulus-refused .ensures) ∙ m .if1 .left, lt-leb _ _ (c .before .if2 .left), le-leb _ _ (c .if3 .taken)))
+    (λ c. let m = c .before .before in
+    simp (sym (m .before .modulus-refused .ensures) ∙ m .if1 .left, lt-leb _ _ (c .before .if2 .left), lt-leb _ _ (c .if3 .left))))

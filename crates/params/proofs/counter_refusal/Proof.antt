@@ -11,16 +11,19 @@ use Rattle.params.proofs.counter_refusal.Tie as tie
 refused : tie.Need-returns
 refused c =
     let a = c .before .before .args in
-    shape-refused (badCards (a .n)) (badBroken (a .n) (a .f)) (given 3 (badModulus (a .c)) 0) _ (c .before .shape-refusal .ensures) (c .if1 .taken)
+    shape-refused (badCards (a .n)) (badBroken (a .n) (a .f)) (given 3 (badModulus (a .c)) 0) _
+    (c .before .shape-refusal .ensures) (c .if1 .taken)
 
 -- refusals 1 and 2 are not given
 later : (c : tie.After-modulus-refused)
-    → counterRefusal (c .before .before .before .args .n) (c .before .before .before .args .f) (c .before .before .before .args .c) 0
-    ≡ given 3 (c .modulus-refused .result) 0
+    → let a = c .before .before .before .args in
+    counterRefusal (a .n) (a .f) (a .c) 0 ≡ given 3 (c .modulus-refused .result) 0
 later c =
-    let a = c .before .before .before .args in
+    let s = c .before .before in
+    let a = s .before .args in
     rw (c .modulus-refused .ensures)
-    (shape-passed (badCards (a .n)) (badBroken (a .n) (a .f)) (given 3 (badModulus (a .c)) 0) _ (c .before .before .shape-refusal .ensures) (c .before .if1 .left))
+    (shape-passed (badCards (a .n)) (badBroken (a .n) (a .f)) (given 3 (badModulus (a .c)) 0) _
+    (s .shape-refusal .ensures) (c .before .if1 .left))
 
 pub counter-refusal-spec : {M : Type 1} → statement M
 counter-refusal-spec =

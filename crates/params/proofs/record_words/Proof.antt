@@ -18,7 +18,8 @@ zeros-and-digits zero m (suc f) l h = absurd (omega arith)
 zeros-and-digits (suc k) m zero l h = omega (arith, no-digits m)
 zeros-and-digits (suc k) zero (suc f) l h = absurd (omega arith)
 zeros-and-digits (suc k) (suc m) (suc f) l h =
-    add-suc (leadingZeros k (suc f / 2)) (digitsIn m (suc f / 2)) ∙ ap suc (zeros-and-digits k m (suc f / 2) (half-le l) (omega (arith, pow-suc 2 k)))
+    let half = suc f / 2 in
+    add-suc (leadingZeros k half) (digitsIn m half) ∙ ap suc (zeros-and-digits k m half (half-le l) (omega (arith, pow-suc 2 k)))
 
 returns : tie.Need-returns
 unfolding binaryDigits

@@ -12,5 +12,7 @@ shape-refusal-spec =
     (λ c. simp (ne-eqb _ _ (c .before .if1 .left), lt-ltb _ _ (c .if2 .taken)))
     (λ c. simp (ne-eqb _ _ (c .before .before .if1 .left), le-ltb _ _ (c .before .if2 .left), lt-ltb _ _ (c .if3 .taken)))
     (λ c. search needs)
-    (λ c. simp (ne-eqb _ _ (c .before .before .before .if1 .left), le-ltb _ _ (c .before .before .if2 .left), le-ltb _ _ (c .before .if3 .left), le-leb _ _ (c .if4 .taken)))
-    (λ c. simp (ne-eqb _ _ (c .before .before .before .if1 .left), le-ltb _ _ (c .before .before .if2 .left), le-ltb _ _ (c .before .if3 .left), lt-leb _ _ (c .if4 .left))))
+    (λ c. let s = c .before .before in
+    simp (ne-eqb _ _ (s .before .if1 .left), le-ltb _ _ (s .if2 .left), le-ltb _ _ (c .before .if3 .left), le-leb _ _ (c .if4 .taken)))
+    (λ c. let s = c .before .before in
+    simp (ne-eqb _ _ (s .before .if1 .left), le-ltb _ _ (s .if2 .left), le-ltb _ _ (c .before .if3 .left), lt-leb _ _ (c .if4 .left))))

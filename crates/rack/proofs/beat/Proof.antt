@@ -18,12 +18,14 @@ unfolding beatOut
 refused c = rw (← (c .before .beat-refusal .ensures), ne-eqb _ _ (c .if1 .taken)) (refl, refl)
 
 passed : (c : tie.Else1)
-    → beatRefusal (c .before .before .before .before .before .args .n) (c .before .before .before .before .before .args .f) (c .before .before .before .before .before .args .c) (c .before .before .before .before .before .args .broken)
-    (length (c .before .before .before .before .before .args .held .now)) (length (c .before .before .before .before .before .args .sent .now)) (length (c .before .before .before .before .before .args .out .now)) ≡ 0
+    → let a = c .before .before .before .before .before .args in
+    beatRefusal (a .n) (a .f) (a .c) (a .broken) (length (a .held .now)) (length (a .sent .now)) (length (a .out .now)) ≡ 0
 passed c = sym (c .before .beat-refusal .ensures) ∙ c .if1 .left
 
 -- the table of a receiver has room
-room : (c : tie.Else1) → length (c .before .before .before .before .before .args .held .now) ≤ 400
+room : (c : tie.Else1)
+    → let a = c .before .before .before .before .before .args in
+    length (a .held .now) ≤ 400
 room c =
     let a = c .before .before .before .before .before .args in
     let g = beat-accepted (a .n) (a .f) (a .c) (a .broken) _ _ _ (passed c) in

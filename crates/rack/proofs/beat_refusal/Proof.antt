@@ -14,59 +14,81 @@ use Rattle.rack.proofs.Accepted.{sent-most}
 use Rattle.rack.proofs.beat_refusal.Statement.{statement}
 use Rattle.rack.proofs.beat_refusal.Tie as tie
 
--- what is tested after 3
-abbrev rest : ℕ → ℕ → ℕ → ℕ → ℕ → ℕ → ℕ
-rest n f set held sent out =
-    given 7 (badSet n f set)
-    (given 5 (wrong held (n * recordWords f))
-    (given 8 (wrong sent (n * brokenBelow set n * recordWords f))
-    (given 6 (wrong out (n * recordWords f)) 0)))
+-- what is tested after 3, and after 7 and 5
+abbrev last : tie.Start → ℕ → ℕ → ℕ
+last s count w =
+    let a = s .args in
+    given 8 (wrong (a .sent) (a .n * count * w)) (given 6 (wrong (a .out) (a .n * w)) 0)
+
+abbrev rest : tie.Start → ℕ
+rest s =
+    let a = s .args in
+    let w = recordWords (a .f) in
+    given 7 (badSet (a .n) (a .f) (a .set))
+    (given 5 (wrong (a .held) (a .n * w))
+    (last s (brokenBelow (a .set) (a .n)) w))
+
+abbrev refusal : tie.Start → ℕ
+refusal s =
+    let a = s .args in
+    beatRefusal (a .n) (a .f) (a .c) (a .set) (a .held) (a .sent) (a .out)
 
 refused : tie.Need-returns
 refused c =
-    let a = c .before .before .args in
-    counter-refused (a .n) (a .f) (a .c) (rest (a .n) (a .f) (a .set) (a .held) (a .sent) (a .out)) _ (c .before .counter-refusal .ensures) (c .if1 .taken)
+    let s = c .before .before in
+    let a = s .args in
+    counter-refused (a .n) (a .f) (a .c) (rest s) _ (c .before .counter-refusal .ensures) (c .if1 .taken)
 
 -- refusals 1 to 3 are not given
-later : (c : tie.Else1)
-    → beatRefusal (c .before .before .args .n) (c .before .before .args .f) (c .before .before .args .c) (c .before .before .args .set) (c .before .before .args .held) (c .before .before .args .sent) (c .before .before .args .out)
-    ≡ rest (c .before .before .args .n) (c .before .before .args .f) (c .before .before .args .set) (c .before .before .args .held) (c .before .before .args .sent) (c .before .before .args .out)
+later : (c : tie.Else1) → let s = c .before .before in refusal s ≡ rest s
 later c =
-    let a = c .before .before .args in
-    counter-passed (a .n) (a .f) (a .c) (rest (a .n) (a .f) (a .set) (a .held) (a .sent) (a .out)) _ (c .before .counter-refusal .ensures) (c .if1 .left)
+    let s = c .before .before in
+    let a = s .args in
+    counter-passed (a .n) (a .f) (a .c) (rest s) _ (c .before .counter-refusal .ensures) (c .if1 .left)
 
-shape : (c : tie.Else1) → Shape (c .before .before .args .n) (c .before .before .args .f)
+shape : (c : tie.Else1) → let a = c .before .before .args in Shape (a .n) (a .f)
 shape c =
     let a = c .before .before .args in
     counter-shape (a .n) (a .f) (a .c) (sym (c .before .counter-refusal .ensures) ∙ c .if1 .left)
 
 -- the products are small
-table-small : (c : tie.After-record-words) → c .before .before .before .before .before .args .n * c .record-words .result ≤ 400
+table-small : (c : tie.After-record-words)
+    → let e = c .before .before .before in
+    e .before .before .args .n * c .record-words .result ≤ 400
 table-small c =
     let e = c .before .before .before in
     let s = shape e in
     rw (c .record-words .ensures) (table-most (e .before .before .args .n) (e .before .before .args .f) (s .cards) (s .broken))
 
 sent-small : (c : tie.After-broken-below)
-    → (c .before .before .before .before .before .before .before .args .n * c .broken-below .result ≤ 256)
-    × (c .before .before .before .before .before .before .before .args .n * c .broken-below .result * c .before .before .record-words .result ≤ 6400)
+    → let w = c .before .before in
+    let n = w .before .before .before .before .before .args .n in
+    (n * c .broken-below .result ≤ 256) × (n * c .broken-below .result * w .record-words .result ≤ 6400)
 sent-small c =
-    let e = c .before .before .before .before .before in
+    let w = c .before .before in
+    let e = w .before .before .before in
     let a = e .before .before .args in
     let s = shape e in
     sent-most (a .n) _ _ (s .cards)
     (rw (c .broken-below .ensures) (omega (arith, broken-most (a .set) (a .n), s .cards)))
-    (rw (c .before .before .record-words .ensures) (words-most (a .f) (s .broken)))
+    (rw (w .record-words .ensures) (words-most (a .f) (s .broken)))
 
 -- refusals 7 and 5 are not given either
 sent-next : (c : tie.After-broken-below)
-    → beatRefusal (c .before .before .before .before .before .before .before .args .n) (c .before .before .before .before .before .before .before .args .f) (c .before .before .before .before .before .before .before .args .c) (c .before .before .before .before .before .before .before .args .set) (c .before .before .before .before .before .before .before .args .held) (c .before .before .before .before .before .before .before .args .sent) (c .before .before .before .before .before .before .before .args .out)
-    ≡ given 8 (wrong (c .before .before .before .before .before .before .before .args .sent) (c .before .before .before .before .before .before .before .args .n * c .broken-below .result * c .before .before .record-words .result))
-    (given 6 (wrong (c .before .before .before .before .before .before .before .args .out) (c .before .before .before .before .before .before .before .args .n * c .before .before .record-words .result)) 0)
+    → let w = c .before .before in
+    let s = w .before .before .before .before .before in
+    refusal s ≡ last s (c .broken-below .result) (w .record-words .result)
 sent-next c =
-    let p = c .before .before .before in
+    let w = c .before .before in
+    let p = w .before in
     later (p .before .before)
-    ∙ rw (← (p .before .set-refused .ensures), p .if2 .left, ← (c .broken-below .ensures), ← (c .before .before .record-words .ensures), eq-eqb _ _ (c .before .if3 .left))
+    ∙ rw (
+      ← (p .before .set-refused .ensures),
+      p .if2 .left,
+      ← (c .broken-below .ensures),
+      ← (w .record-words .ensures),
+      eq-eqb _ _ (c .before .if3 .left),
+    )
 
 pub beat-refusal-spec : {M : Type 1} → statement M
 beat-refusal-spec =
@@ -79,9 +101,11 @@ beat-refusal-spec =
     (λ c κs. search needs)
     (λ c. omega (arith, table-small c))
     (λ c. omega (arith, table-small c))
-    (λ c. let p = c .before .before in
-    sym (later (p .before .before) ∙ rw (← (p .before .set-refused .ensures), p .if2 .left, ← (c .before .record-words .ensures), ne-eqb _ _ (c .if3 .taken))))
-    (λ c κs. shape (c .before .before .before .before) .cards)
+    (λ c. let w = c .before in
+    let p = w .before in
+    sym (later (p .before .before)
+    ∙ rw (← (p .before .set-refused .ensures), p .if2 .left, ← (w .record-words .ensures), ne-eqb _ _ (c .if3 .taken))))
+    (λ c κs. let e = c .before .before .before .before in shape e .cards)
     (λ c. omega (arith, sent-small c))
     (λ c. omega (arith, sent-small c))
     (λ c. omega (arith, sent-small c))

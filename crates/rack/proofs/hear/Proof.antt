@@ -16,31 +16,37 @@ use Rattle.rack.proofs.hear.Tie as tie
 
 abbrev Inv-loop : tie.InvT-loop
 Inv-loop rack sent v heard₀ n w count k₀ u₀ heard k u =
-    (u ≤ n) × (length heard ≡ length heard₀) × (k ≡ brokenBelow (rack .set) u) × (SoundAsHeld rack heard₀ heard) × (BrokenAsSent rack sent v u heard)
+    (u ≤ n) × (length heard ≡ length heard₀) × (k ≡ brokenBelow (rack .set) u)
+    × (SoundAsHeld rack heard₀ heard) × (BrokenAsSent rack sent v u heard)
 
 abbrev μ-loop : tie.MeasureT-loop
 μ-loop rack sent v heard₀ n w count k₀ u₀ heard k u = n - u
 
 good : (c : tie.Start Inv-loop μ-loop)
-    → BeatOf (c .args .rack) (length (c .args .heard .now)) (length (c .args .sent .now)) (length (c .args .heard .now))
+    → let a = c .args in
+    BeatOf (a .rack) (length (a .heard .now)) (length (a .sent .now)) (length (a .heard .now))
 good c = accepted (c .args .rack) _ _ _ (c .pre .0)
 
 -- what is copied lies within the words sent, and its place within the table
 sent-inside : (c : tie.Then1 Inv-loop μ-loop)
-    → SentFits (length (c .before .before .before .before .before .before .before .before .args .sent .now)) (c .before .before .before .before .before .before .before .before .args .v) (c .before .before .before .loop .k)
-    (c .before .before .before .before .before .record-words .result) (c .before .before .before .before .broken-below .result)
+    → let l = c .before .before .before in
+    let a = l .before .before .before .before .before .args in
+    SentFits (length (a .sent .now)) (a .v) (l .loop .k) (l .before .before .record-words .result) (l .before .broken-below .result)
 sent-inside c =
     let l = c .before .before .before in
     let s = l .before .before .before .before .before in
     rw (l .loop .inv .2, l .before .broken-below .ensures, l .before .before .record-words .ensures)
-    (sent-fits (s .args .rack) _ _ _ (s .args .v) (l .loop .u) (good s) (s .pre .1) (omega arith) (sym (c .before .is-broken .ensures) ∙ c .if1 .taken))
+    (sent-fits (s .args .rack) _ _ _ (s .args .v) (l .loop .u) (good s) (s .pre .1) (omega arith)
+    (sym (c .before .is-broken .ensures) ∙ c .if1 .taken))
 
 place-inside : (c : tie.In-loop Inv-loop μ-loop)
-    → RecordFits (length (c .before .before .before .before .before .before .args .heard .now)) (length (c .before .before .before .before .before .before .args .heard .now))
-    (c .before .loop .u) (c .before .before .before .record-words .result)
+    → let w = c .before .before .before in
+    let table = length (w .before .before .before .args .heard .now) in
+    RecordFits table table (c .before .loop .u) (w .record-words .result)
 place-inside c =
-    let s = c .before .before .before .before .before .before in
-    rw (c .before .before .before .record-words .ensures) (record-fits (s .args .rack) _ _ _ (c .before .loop .u) (good s) (omega arith))
+    let w = c .before .before .before in
+    let s = w .before .before .before in
+    rw (w .record-words .ensures) (record-fits (s .args .rack) _ _ _ (c .before .loop .u) (good s) (omega arith))
 
 loop-holds : tie.Need-loop-holds Inv-loop μ-loop
 unfolding brokenBelow countBelow
@@ -50,7 +56,8 @@ loop-again : tie.Need-loop-again Inv-loop μ-loop
 loop-again c =
     let l = c .before .before .before in
     let s = l .before .before .before .before .before in
-    let r = s .args .rack in
+    let a = s .args in
+    let r = a .rack in
     let u = l .loop .u in
     let inv = l .loop .inv in
     let is = sym (c .before .is-broken .ensures) in
@@ -59,19 +66,32 @@ loop-again c =
     (λ w.
     let e = is ∙ w .0 .taken in
     let next = rw (l .before .before .record-words .ensures, l .before .broken-below .ensures, inv .2) at (w .2 .ensures) in
-    let h = broken-heard r (s .args .heard .now) (s .args .sent .now) (s .args .v) u (l .loop .heard) (c .if1 .heard) e fits (w .5 ∙ next) (inv .3) (inv .4) in
-    (omega arith, ap length (w .5) ∙ w .2 .kept .1 .1 .0 ∙ inv .1, w .6 ∙ ap (λ (k : ℕ). k + 1) (inv .2) ∙ sym (one-broken (r .set) u e), h .0, h .1))
+    let h =
+    broken-heard r (a .heard .now) (a .sent .now) (a .v) u (l .loop .heard) (c .if1 .heard) e fits (w .5 ∙ next) (inv .3) (inv .4) in (
+      omega arith,
+      ap length (w .5) ∙ w .2 .kept .1 .1 .0 ∙ inv .1,
+      w .6 ∙ ap (λ (k : ℕ). k + 1) (inv .2) ∙ sym (one-broken (r .set) u e),
+      h .0,
+      h .1,
+    ))
     (λ w.
     let e = is ∙ w .0 .left in
     let kept : c .if1 .heard ≡ l .loop .heard = w .1 in
-    rw kept (omega arith, inv .1, w .2 ∙ inv .2 ∙ sym (one-sound (r .set) u e), inv .3, sound-passed r (s .args .heard .now) (s .args .sent .now) (s .args .v) u (l .loop .heard) e (inv .4)))
+    rw kept (
+      omega arith,
+      inv .1,
+      w .2 ∙ inv .2 ∙ sym (one-sound (r .set) u e),
+      inv .3,
+      sound-passed r (a .heard .now) (a .sent .now) (a .v) u (l .loop .heard) e (inv .4),
+    ))
     (c .if1 .came)
 
 returns : tie.Need-returns Inv-loop μ-loop
 returns c =
-    let l = c .before .loop in
-    let e : l .u ≡ c .before .before .before .before .before .before .args .rack .n = omega arith in
-    (l .inv .3, rw e at (l .inv .4))
+    let l = c .before in
+    let s = l .before .before .before .before .before in
+    let e : l .loop .u ≡ s .args .rack .n = omega arith in
+    (l .loop .inv .3, rw e at (l .loop .inv .4))
 
 pub hear-spec : {M : Type 1} → statement M
 hear-spec =
@@ -80,18 +100,20 @@ hear-spec =
     Inv-loop
     μ-loop
     (λ c κs. search needs)
-    (λ c κs. good (c .before .before .before) .shape .cards)
+    (λ c κs. let s = c .before .before .before in good s .shape .cards)
     loop-holds
-    (λ c κs. omega (arith, good (c .before .before .before .before .before .before) .shape .cards))
+    (λ c κs. let s = c .before .before .before .before .before .before in omega (arith, good s .shape .cards))
     (λ c. omega (arith, sent-inside c))
     (λ c. omega (arith, sent-inside c))
     (λ c. omega (arith, sent-inside c))
     (λ c. omega (arith, sent-inside c))
-    (λ c. omega (arith, place-inside (c .before .before .before)))
-    (λ c. omega (arith, place-inside (c .before .before .before)))
-    (λ c. omega (arith, place-inside (c .before .before .before)))
-    (λ c κs. omega (arith, sent-inside (c .before), place-inside (c .before .before .before)))
-    (λ c. let l = c .before .before .before .before .before .before .before in omega (arith, broken-most (l .before .before .before .before .before .args .rack .set) (l .loop .u)))
+    (λ c. let i = c .before .before .before in omega (arith, place-inside i))
+    (λ c. let i = c .before .before .before in omega (arith, place-inside i))
+    (λ c. let i = c .before .before .before in omega (arith, place-inside i))
+    (λ c κs. let i = c .before .before .before in omega (arith, sent-inside (c .before), place-inside i))
+    (λ c. let l = c .before .before .before .before .before .before .before in
+    let s = l .before .before .before .before .before in
+    omega (arith, broken-most (s .args .rack .set) (l .loop .u)))
     (λ c. omega arith)
     (λ c. omega arith)
     loop-again

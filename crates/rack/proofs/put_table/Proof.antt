@@ -16,13 +16,15 @@ use Rattle.rack.proofs.put_table.Tie as tie
 
 abbrev Inv-loop : tie.InvT-loop
 Inv-loop rack held sent heard₀ out₀ n v₀ heard out v =
-    (v ≤ n) × (length heard ≡ length held) × (length out ≡ length out₀) × (SoundAsHeld rack held heard) × (take (v * size rack) out ≡ rows v (recordOf rack held sent))
+    (v ≤ n) × (length heard ≡ length held) × (length out ≡ length out₀)
+    × (SoundAsHeld rack held heard) × (take (v * size rack) out ≡ rows v (recordOf rack held sent))
 
 abbrev μ-loop : tie.MeasureT-loop
 μ-loop rack held sent heard₀ out₀ n v₀ heard out v = n - v
 
 good : (c : tie.Start Inv-loop μ-loop)
-    → BeatOf (c .args .rack) (length (c .args .held .now)) (length (c .args .sent .now)) (length (c .args .out .now))
+    → let a = c .args in
+    BeatOf (a .rack) (length (a .held .now)) (length (a .sent .now)) (length (a .out .now))
 good c = accepted (c .args .rack) _ _ _ (c .pre .0)
 
 loop-holds : tie.Need-loop-holds Inv-loop μ-loop
@@ -38,7 +40,12 @@ put-record-requires : tie.Need-put-record-requires Inv-loop μ-loop
 put-record-requires c κs =
     let l = c .before .before .before in
     let s = l .before .before .before .before .before .before .before .before .before in
-    (rw (← (l .loop .inv .2)) at (s .pre .0), omega arith, l .loop .inv .1, l .loop .inv .3)
+    record {
+      accepted = rw (← (l .loop .inv .2)) at (s .pre .0);
+      card-below = omega arith;
+      heard-whole = l .loop .inv .1;
+      sound = l .loop .inv .3;
+    }
 
 loop-again : tie.Need-loop-again Inv-loop μ-loop
 loop-again c =
@@ -74,12 +81,14 @@ put-table-spec =
     (tie.spec
     Inv-loop
     μ-loop
-    (λ c κs. omega (arith, c .before .before .before .before .before .pre .1))
+    (λ c κs. let s = c .before .before .before .before .before in omega (arith, s .pre .1))
     loop-holds
     put-record-requires
     (λ c. omega arith)
     (λ c. omega arith)
     loop-again
-    (λ c. c .before .loop .inv .1 ∙ sym (c .before .before .before .before .before .before .before .before .before .before .pre .1))
+    (λ c. let l = c .before in
+    let s = l .before .before .before .before .before .before .before .before .before in
+    l .loop .inv .1 ∙ sym (s .pre .1))
     (λ c. c .before .loop .inv .2)
     returns)

@@ -16,7 +16,9 @@ use Rattle.runfile.proofs.beat_records.Tie as tie
 
 -- the records fit both tables
 small : (c : tie.After-start-words) → c .start-words .result ≤ 400
-small c = let s = c .before .before .before in rw (c .start-words .ensures) (start-most (said (s .args .h)) (s .pre .0))
+small c =
+    let s = c .before .before .before in
+    rw (c .start-words .ensures) (start-most (said (s .args .h)) (s .pre .0 .passes))
 
 held : (c : tie.After-beat-arg)
     → let w = c .before .before in
@@ -24,14 +26,15 @@ held : (c : tie.After-beat-arg)
 held c =
     let w = c .before .before in
     let s = w .before .before .before in
-    length-take-le (w .start-words .result) (s .args .table .now) (omega (arith, small w, s .pre .2))
+    length-take-le (w .start-words .result) (s .args .table .now) (omega (arith, small w, s .pre .0 .room))
 
 blank : (c : tie.After-next)
     → let z = c .before .before in
     length (take (z .before .start-words .result) (z .room-for-table .result)) ≡ z .before .start-words .result
 blank c =
     let z = c .before .before in
-    length-take-le (z .before .start-words .result) (z .room-for-table .result) (omega (arith, small (z .before), z .room-for-table .ensures))
+    let w = z .before in
+    length-take-le (w .start-words .result) (z .room-for-table .result) (omega (arith, small w, z .room-for-table .ensures))
 
 -- what the beat writes: the records after it
 abbrev made : tie.After-beat → List ℕ
@@ -46,7 +49,9 @@ done c =
     let s = w .before .before .before in
     let h = said (s .args .h) in
     let e = w .start-words .ensures in
-    let all = beat-done h (s .pre .0) _ (s .args .sent .now) _ _ (held (c .before .before) ∙ e) (s .pre .1) (blank (c .before) ∙ e) (c .beat .ensures .1) in
+    let all =
+    beat-done h (s .pre .0 .passes) _ (s .args .sent .now) _ _
+    (held (c .before .before) ∙ e) (s .pre .1) (blank (c .before) ∙ e) (c .beat .ensures .1) in
     let size = ap length all ∙ after-length h _ (s .args .sent .now) in
     (rw e at all, size ∙ sym e)
 
@@ -70,7 +75,9 @@ beat-records-spec =
     (tie.spec
     (λ c κs. search needs)
     (λ c κs. search needs)
-    (λ c. omega (arith, small (c .before), c .before .before .before .before .pre .2))
+    (λ c. let w = c .before in
+    let s = w .before .before .before in
+    omega (arith, small w, s .pre .0 .room))
     (λ c. sym (held c))
     (λ c. omega (arith, small (c .before .before), c .before .room-for-table .ensures))
     (λ c. sym (blank c))
@@ -79,6 +86,7 @@ beat-records-spec =
     (λ c κs.
     let b = c .before .before .before in
     let w = b .before .before .before .before in
-    (omega (arith, whole b, small w), omega (arith, small w, w .before .before .before .pre .2)))
+    let s = w .before .before .before in
+    (omega (arith, whole b, small w), omega (arith, small w, s .pre .0 .room)))
     (λ c. search needs)
     copied)

@@ -14,7 +14,9 @@ refused c =
     refused-takes _ _ _ _ _ _ (c .before .stage-tests .ensures ∙ sym (tests-kept (a .stage) (a .table .now))) (c .if1 .taken)
 
 -- the run passes its tests
-none : (c : tie.Else1) → keptTests (c .before .before .before .before .args .stage) ≡ 0
+none : (c : tie.Else1)
+    → let a = c .before .before .before .before .args in
+    keptTests (a .stage) ≡ 0
 none c = sym (c .before .stage-tests .ensures) ∙ c .if1 .left
 
 header : tie.Need-returns-2
@@ -32,7 +34,8 @@ start c =
     let k = t .before .before .before .before in
     let e = k .before .before in
     let a = e .before .before .before .before .args in
-    takes-as (a .stage) (AtStart (k .stage .given .0 .0)) (a .table .now) (a .line .now) (a .out .now) _ _ _ (k .stage .given .1) (none e) (t .take-start .ensures)
+    takes-as (a .stage) (AtStart (k .stage .given .0 .0)) (a .table .now) (a .line .now) (a .out .now) _ _ _
+    (k .stage .given .1) (none e) (t .take-start .ensures)
 
 beat : tie.Need-returns-4
 unfolding stageOf
@@ -41,19 +44,20 @@ beat c =
     let k = t .before .before .before .before in
     let e = k .before .before in
     let a = e .before .before .before .before .args in
-    takes-as (a .stage) (AtBeat (k .stage2 .given .0 .0) (k .stage2 .given .0 .1 .0)) (a .table .now) (a .line .now) (a .out .now) _ _ _ (k .stage2 .given .1) (none e) (t .take-beat .ensures)
+    let known = AtBeat (k .stage2 .given .0 .0) (k .stage2 .given .0 .1 .0) in
+    takes-as (a .stage) known (a .table .now) (a .line .now) (a .out .now) _ _ _ (k .stage2 .given .1) (none e) (t .take-beat .ensures)
 
 take-start-requires : tie.Need-take-start-requires
 unfolding keptTests
 take-start-requires c κs =
     let k = c .before .before .before in
-    (rw (k .stage .given .1) at (none (k .before .before)), search needs)
+    record { passes = rw (k .stage .given .1) at (none (k .before .before)); room = search needs }
 
 take-beat-requires : tie.Need-take-beat-requires
 unfolding keptTests
 take-beat-requires c κs =
     let k = c .before .before .before in
-    (rw (k .stage2 .given .1) at (none (k .before .before)), search needs)
+    record { passes = rw (k .stage2 .given .1) at (none (k .before .before)); room = search needs }
 
 pub line-taken-spec : {M : Type 1} → statement M
 line-taken-spec =

@@ -13,23 +13,32 @@ use Rattle.runfile.proofs.next_table.Statement.{statement}
 use Rattle.runfile.proofs.next_table.Tie as tie
 
 small : (c : tie.After-beat-words) → c .beat-words .result ≤ 2000
-small c = let s = c .before .before .before in rw (c .beat-words .ensures) (sent-most (said (s .args .h)) (s .pre .0) .2)
+small c =
+    let s = c .before .before .before in
+    rw (c .beat-words .ensures) (sent-most (said (s .args .h)) (s .pre .0 .passes) .2)
 
 read-words-requires : tie.Need-read-words-requires
 read-words-requires c κs =
     let w = c .before .before in
-    (rw (w .beat-words .ensures) (w .before .before .before .pre .1), omega (arith, small w, c .before .room-for-line .ensures))
+    let s = w .before .before .before in
+    (rw (w .beat-words .ensures) (s .pre .1), omega (arith, small w, c .before .room-for-line .ensures))
 
 -- the words that are read are the first of the buffer
 first : (c : tie.After-read-words)
-    → take (c .before .before .before .beat-words .result) (c .read-words .last .1 .1 .0) ≡ wordsAt (c .before .before .before .before .before .before .args .line .now) 4 (c .before .before .before .beat-words .result)
+    → let w = c .before .before .before in
+    let count = w .beat-words .result in
+    take count (c .read-words .last .1 .1 .0) ≡ wordsAt (w .before .before .before .args .line .now) 4 count
 first c =
     let w = c .before .before .before in
     let line = w .before .before .before .args .line .now in
+    let count = w .beat-words .result in
     rw (c .read-words .ensures)
-    (first-taken _ (wordsAt line 4 (w .beat-words .result)) (w .beat-words .result) (words-length line 4 (w .beat-words .result)) (omega (arith, small w, c .before .before .room-for-line .ensures)))
+    (first-taken _ (wordsAt line 4 count) count (words-length line 4 count)
+    (omega (arith, small w, c .before .before .room-for-line .ensures)))
 
-size : (c : tie.After-read-words) → length (take (c .before .before .before .beat-words .result) (c .read-words .last .1 .1 .0)) ≡ c .before .before .before .beat-words .result
+size : (c : tie.After-read-words)
+    → let count = c .before .before .before .beat-words .result in
+    length (take count (c .read-words .last .1 .1 .0)) ≡ count
 size c = rw (first c) (words-length _ 4 _)
 
 pub next-table-spec : {M : Type 1} → statement M
@@ -40,13 +49,15 @@ next-table-spec =
     (λ c κs. search needs)
     (λ c. search needs)
     read-words-requires
-    (λ c. omega (arith, small (c .before .before .before .before), c .before .read-words .kept .1 .1 .0, c .before .before .before .room-for-line .ensures))
+    (λ c. let r = c .before in
+    let z = r .before .before in
+    omega (arith, small (z .before), r .read-words .kept .1 .1 .0, z .room-for-line .ensures))
     (λ c. sym (size (c .before .before)))
     (λ c κs.
     let r = c .before .before .before in
     let w = r .before .before .before in
     let s = w .before .before .before in
-    (s .pre .0, size r ∙ w .beat-words .ensures, s .pre .2))
+    (s .pre .0, size r ∙ w .beat-words .ensures))
     (λ c. search needs)
     (λ c.
     let k = c .before .before in

@@ -23,26 +23,28 @@ refused c = refused-takes _ _ _ _ _ _ (c .before .beat-line-refusal .ensures) (c
 
 -- the line is well formed, its beat is no later than the last, and the records fit the table
 good : (c : tie.Else1)
-    → (wellFormed (frameDigits (beatWords (said (c .before .before .before .before .args .h)))) (c .before .before .before .before .args .line .now) ≡ true)
-    × (c .before .before .before .before .args .beat + 1 ≤ lastBeat)
-    × (startWords (said (c .before .before .before .before .args .h)) ≤ length (c .before .before .before .before .args .table .now))
+    → let a = c .before .before .before .before .args in
+    (wellFormed (frameDigits (beatWords (said (a .h)))) (a .line .now) ≡ true)
+    × (a .beat + 1 ≤ lastBeat)
+    × (startWords (said (a .h)) ≤ length (a .table .now))
 good c =
     let s = c .before .before .before .before in
     let a = s .args in
     let f = beat-formed (said (a .h)) (a .beat) (a .line .now) (sym (c .before .beat-line-refusal .ensures) ∙ c .if1 .left) in
-    (f .0, f .1, omega (arith, start-most (said (a .h)) (s .pre .0), s .pre .1))
+    (f .0, f .1, omega (arith, start-most (said (a .h)) (s .pre .passes), s .pre .room))
 
 next-table-requires : tie.Need-next-table-requires
 next-table-requires c κs =
     let e = c .before in
     let s = e .before .before .before .before in
-    (s .pre .0, good e .0, s .pre .1)
+    (s .pre, good e .0)
 
 put-line-requires : tie.Need-put-line-requires
 put-line-requires c κs =
     let t = c .before .before .before .before in
     let e = t .before .before in
-    (e .before .before .before .before .pre .0, omega (arith, good e .2, t .next-table .kept .1 .1 .0))
+    let s = e .before .before .before .before in
+    record { passes = s .pre .passes; room = omega (arith, good e .2, t .next-table .kept .1 .1 .0) }
 
 accepted-beat : tie.Need-returns-2
 unfolding takeLine stageOf keptOf tableOf
@@ -51,11 +53,15 @@ accepted-beat c =
     let e = t .before .before in
     let a = e .before .before .before .before .args in
     let h = said (a .h) in
-    let records = tableNext h (a .table .now) (a .line .now) in
-    let text : outputLine h (a .beat + 1) (t .next-table .last .1 .1 .0) ≡ outputLine h (a .beat + 1) records =
-    rw (t .next-table .ensures) (line-of-stored h (a .beat + 1) (a .table .now) records (next-length h (a .table .now) (a .line .now)) (good e .2)) in
-    accepted-takes (AtBeat (a .h) (a .beat)) (beatLineRefusal h (a .beat) (a .line .now)) (atBeat h (a .beat + 1) records) (outputLine h (a .beat + 1) records) (a .table .now) (a .out .now) _ _ _
-    (sym (e .before .beat-line-refusal .ensures) ∙ e .if1 .left) (t .next-table .ensures) (c .put-line .ensures .1 ∙ rw text) (c .put-line .ensures .0 ∙ ap length text)
+    let table = a .table .now in
+    let line = a .line .now in
+    let next = a .beat + 1 in
+    let records = tableNext h table line in
+    let text : outputLine h next (t .next-table .last .1 .1 .0) ≡ outputLine h next records =
+    rw (t .next-table .ensures) (line-of-stored h next table records (next-length h table line) (good e .2)) in
+    let none = sym (e .before .beat-line-refusal .ensures) ∙ e .if1 .left in
+    accepted-takes (AtBeat (a .h) (a .beat)) (beatLineRefusal h (a .beat) line) (atBeat h next records) (outputLine h next records)
+    table (a .out .now) _ _ _ none (t .next-table .ensures) (c .put-line .ensures .1 ∙ rw text) (c .put-line .ensures .0 ∙ ap length text)
 
 pub take-beat-spec : {M : Type 1} → statement M
 take-beat-spec =
@@ -64,7 +70,7 @@ take-beat-spec =
     (λ c κs. search needs)
     refused
     next-table-requires
-    (λ c. omega (arith, good (c .before .before .before .before)))
+    (λ c. let e = c .before .before .before .before in omega (arith, good e))
     put-line-requires
     (λ c. search needs)
     accepted-beat)

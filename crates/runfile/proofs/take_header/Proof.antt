@@ -19,7 +19,8 @@ formed : tie.Need-header-of-requires
 unfolding headerRefusal
 formed c κs =
     let line = c .before .before .before .args .line .now in
-    not-false (wellFormed 12 line) (not-given 10 (not (wellFormed 12 line)) _ (omega arith) (sym (c .before .header-refusal .ensures) ∙ c .if1 .left) .0)
+    let none = sym (c .before .header-refusal .ensures) ∙ c .if1 .left in
+    not-false (wellFormed 12 line) (not-given 10 (not (wellFormed 12 line)) _ (omega arith) none .0)
 
 accepted : tie.Need-returns-2
 unfolding takeLine orRefused answerOf keptOf

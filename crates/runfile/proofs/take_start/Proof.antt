@@ -23,21 +23,27 @@ unfolding takeLine
 refused c = refused-takes _ _ _ _ _ _ (c .before .start-line-refusal .ensures) (c .if1 .taken)
 
 -- the line is well formed, and its words fit the table
-fits : (c : tie.Else1) → startWords (said (c .before .before .before .before .args .h)) ≤ length (c .before .before .before .before .args .table .now)
-fits c = let s = c .before .before .before .before in omega (arith, start-most (said (s .args .h)) (s .pre .0), s .pre .1)
+fits : (c : tie.Else1)
+    → let a = c .before .before .before .before .args in
+    startWords (said (a .h)) ≤ length (a .table .now)
+fits c =
+    let s = c .before .before .before .before in
+    omega (arith, start-most (said (s .args .h)) (s .pre .passes), s .pre .room)
 
 read-words-requires : tie.Need-read-words-requires
 read-words-requires c κs =
     let w = c .before in
     let e = w .before in
     let a = e .before .before .before .before .args in
-    rw (w .start-words .ensures) (start-formed (said (a .h)) (a .line .now) (sym (e .before .start-line-refusal .ensures) ∙ e .if1 .left), fits e)
+    let none = sym (e .before .start-line-refusal .ensures) ∙ e .if1 .left in
+    rw (w .start-words .ensures) (start-formed (said (a .h)) (a .line .now) none, fits e)
 
 put-line-requires : tie.Need-put-line-requires
 put-line-requires c κs =
     let r = c .before .before .before .before in
     let e = r .before .before .before in
-    (e .before .before .before .before .pre .0, omega (arith, fits e, r .read-words .kept .1 .1 .0))
+    let s = e .before .before .before .before in
+    record { passes = s .pre .passes; room = omega (arith, fits e, r .read-words .kept .1 .1 .0) }
 
 accepted-start : tie.Need-returns-2
 unfolding takeLine keptOf tableOf
@@ -51,8 +57,9 @@ accepted-start c =
     let stored : r .read-words .last .1 .1 .0 ≡ sets (a .table .now) 0 words = r .read-words .ensures ∙ rw (w .start-words .ensures) in
     let text : outputLine h 0 (r .read-words .last .1 .1 .0) ≡ outputLine h 0 words =
     rw stored (line-of-stored h 0 (a .table .now) words (words-length (a .line .now) 4 (startWords h)) (fits e)) in
-    accepted-takes (AtStart (a .h)) (startLineRefusal h (a .line .now)) (atBeat h 0 words) (outputLine h 0 words) (a .table .now) (a .out .now) _ _ _
-    (sym (e .before .start-line-refusal .ensures) ∙ e .if1 .left) stored (c .put-line .ensures .1 ∙ rw text) (c .put-line .ensures .0 ∙ ap length text)
+    let none = sym (e .before .start-line-refusal .ensures) ∙ e .if1 .left in
+    accepted-takes (AtStart (a .h)) (startLineRefusal h (a .line .now)) (atBeat h 0 words) (outputLine h 0 words)
+    (a .table .now) (a .out .now) _ _ _ none stored (c .put-line .ensures .1 ∙ rw text) (c .put-line .ensures .0 ∙ ap length text)
 
 pub take-start-spec : {M : Type 1} → statement M
 take-start-spec =

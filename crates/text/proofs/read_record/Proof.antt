@@ -9,7 +9,7 @@ use lib.ListN.{length}
 use Rattle.rules.specs.Parameters.{recordWords}
 use Rattle.rules.specs.Text.{wellFormed}
 use Rattle.rules.specs.Calls.{readOut}
-use Rattle.digits.proofs.Hexadecimal.{formed}
+use Rattle.digits.proofs.Hexadecimal.{readable}
 use Rattle.text.proofs.Accepted.{read-accepted}
 use Rattle.text.proofs.read_record.Statement.{statement}
 use Rattle.text.proofs.read_record.Tie as tie
@@ -20,8 +20,8 @@ returns c = (c .before .read-refusal .ensures, rw (← (c .before .read-refusal 
 
 -- what is known once nothing is refused
 good : (c : tie.Else1)
-    → (length (c .before .before .before .before .args .out .now) ≡ recordWords (c .before .before .before .before .args .f))
-    × (wellFormed (4 * recordWords (c .before .before .before .before .args .f)) (c .before .before .before .before .args .text .now) ≡ true)
+    → let a = c .before .before .before .before .args in
+    (length (a .out .now) ≡ recordWords (a .f)) × (wellFormed (4 * recordWords (a .f)) (a .text .now) ≡ true)
 good c =
     let a = c .before .before .before .before .args in
     read-accepted (a .n) (a .f) (a .text .now) (length (a .out .now)) (sym (c .before .read-refusal .ensures) ∙ c .if1 .left)
@@ -29,8 +29,7 @@ good c =
 words-at-requires : tie.Need-words-at-requires
 words-at-requires c κs =
     let g = good (c .before) in
-    let t = formed _ _ (g .1) in
-    (t .1, omega arith)
+    readable _ _ (g .1) 0 _ (omega arith)
 
 returns-2 : tie.Need-returns-2
 unfolding readOut

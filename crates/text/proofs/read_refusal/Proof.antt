@@ -12,16 +12,19 @@ use Rattle.text.proofs.read_refusal.Tie as tie
 returns : tie.Need-returns
 returns c =
     let a = c .before .before .before .args in
-    shape-refused (badCards (a .n)) (badBroken (a .n) (a .f)) (readRest (recordWords (a .f)) (a .text .now) (a .out)) _ (c .before .shape-refusal .ensures) (c .if1 .taken)
+    shape-refused (badCards (a .n)) (badBroken (a .n) (a .f)) (readRest (recordWords (a .f)) (a .text .now) (a .out)) _
+    (c .before .shape-refusal .ensures) (c .if1 .taken)
 
 -- refusals 1 and 2 are not given
 later : (c : tie.After-record-words)
-    → readRefusal (c .before .before .before .before .args .n) (c .before .before .before .before .args .f) (c .before .before .before .before .args .text .now) (c .before .before .before .before .args .out)
-    ≡ readRest (c .record-words .result) (c .before .before .before .before .args .text .now) (c .before .before .before .before .args .out)
+    → let a = c .before .before .before .before .args in
+    readRefusal (a .n) (a .f) (a .text .now) (a .out) ≡ readRest (c .record-words .result) (a .text .now) (a .out)
 later c =
-    let a = c .before .before .before .before .args in
+    let s = c .before .before in
+    let a = s .before .before .args in
     rw (c .record-words .ensures)
-    (shape-passed (badCards (a .n)) (badBroken (a .n) (a .f)) (readRest (recordWords (a .f)) (a .text .now) (a .out)) _ (c .before .before .shape-refusal .ensures) (c .before .if1 .left))
+    (shape-passed (badCards (a .n)) (badBroken (a .n) (a .f)) (readRest (recordWords (a .f)) (a .text .now) (a .out)) _
+    (s .shape-refusal .ensures) (c .before .if1 .left))
 
 pub read-refusal-spec : {M : Type 1} → statement M
 read-refusal-spec =
@@ -34,5 +37,7 @@ read-refusal-spec =
     (λ c. rw (later (c .before), ne-eqb _ _ (c .if2 .taken)))
     (λ c. search needs)
     (λ c κs. search needs)
-    (λ c. rw (later (c .before .before .before), eq-eqb _ _ (c .before .before .if2 .left), ← (c .before .well-formed .ensures), c .if3 .taken))
-    (λ c. rw (later (c .before .before .before), eq-eqb _ _ (c .before .before .if2 .left), ← (c .before .well-formed .ensures), c .if3 .left)))
+    (λ c. let s = c .before .before in
+    rw (later (s .before), eq-eqb _ _ (s .if2 .left), ← (c .before .well-formed .ensures), c .if3 .taken))
+    (λ c. let s = c .before .before in
+    rw (later (s .before), eq-eqb _ _ (s .if2 .left), ← (c .before .well-formed .ensures), c .if3 .left)))

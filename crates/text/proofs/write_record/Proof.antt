@@ -20,8 +20,8 @@ returns c = (c .before .write-refusal .ensures, rw (← (c .before .write-refusa
 
 -- what is known once nothing is refused
 good : (c : tie.Else1)
-    → (length (c .before .before .before .before .args .words .now) ≡ recordWords (c .before .before .before .before .args .f))
-    × (length (c .before .before .before .before .args .out .now) ≡ 4 * recordWords (c .before .before .before .before .args .f))
+    → let a = c .before .before .before .before .args in
+    (length (a .words .now) ≡ recordWords (a .f)) × (length (a .out .now) ≡ 4 * recordWords (a .f))
 good c =
     let a = c .before .before .before .before .args in
     write-accepted (a .n) (a .f) (length (a .words .now)) (length (a .out .now)) (sym (c .before .write-refusal .ensures) ∙ c .if1 .left)
@@ -37,4 +37,11 @@ returns-2 c =
     (none, rw (← none) (c .before .before .put-words .ensures ∙ done))
 
 pub write-record-spec : {M : Type 1} → statement M
-write-record-spec = tie.close (tie.spec (λ c κs. search needs) returns (λ c κs. omega (arith, good (c .before))) (λ c. search needs) returns-2)
+write-record-spec =
+    tie.close
+    (tie.spec
+    (λ c κs. search needs)
+    returns
+    (λ c κs. omega (arith, good (c .before)))
+    (λ c. search needs)
+    returns-2)

@@ -13,16 +13,19 @@ use Rattle.text.proofs.write_refusal.Tie as tie
 returns : tie.Need-returns
 returns c =
     let a = c .before .before .args in
-    shape-refused (badCards (a .n)) (badBroken (a .n) (a .f)) (writeRest (recordWords (a .f)) (a .words) (a .out)) _ (c .before .shape-refusal .ensures) (c .if1 .taken)
+    shape-refused (badCards (a .n)) (badBroken (a .n) (a .f)) (writeRest (recordWords (a .f)) (a .words) (a .out)) _
+    (c .before .shape-refusal .ensures) (c .if1 .taken)
 
 -- refusals 1 and 2 are not given
 later : (c : tie.After-record-words)
-    → writeRefusal (c .before .before .before .args .n) (c .before .before .before .args .f) (c .before .before .before .args .words) (c .before .before .before .args .out)
-    ≡ writeRest (c .record-words .result) (c .before .before .before .args .words) (c .before .before .before .args .out)
+    → let a = c .before .before .before .args in
+    writeRefusal (a .n) (a .f) (a .words) (a .out) ≡ writeRest (c .record-words .result) (a .words) (a .out)
 later c =
-    let a = c .before .before .before .args in
+    let s = c .before .before in
+    let a = s .before .args in
     rw (c .record-words .ensures)
-    (shape-passed (badCards (a .n)) (badBroken (a .n) (a .f)) (writeRest (recordWords (a .f)) (a .words) (a .out)) _ (c .before .before .shape-refusal .ensures) (c .before .if1 .left))
+    (shape-passed (badCards (a .n)) (badBroken (a .n) (a .f)) (writeRest (recordWords (a .f)) (a .words) (a .out)) _
+    (s .shape-refusal .ensures) (c .before .if1 .left))
 
 pub write-refusal-spec : {M : Type 1} → statement M
 write-refusal-spec =
@@ -34,5 +37,7 @@ write-refusal-spec =
     (λ c. search needs)
     (λ c. rw (later (c .before), ne-eqb _ _ (c .if2 .taken)))
     (λ c. search needs)
-    (λ c. rw (later (c .before .before), eq-eqb _ _ (c .before .if2 .left), ne-eqb _ (4 * c .before .before .record-words .result) (c .if3 .taken)))
-    (λ c. rw (later (c .before .before), eq-eqb _ _ (c .before .if2 .left), eq-eqb _ (4 * c .before .before .record-words .result) (c .if3 .left))))
+    (λ c. let w = c .before .before in
+    rw (later w, eq-eqb _ _ (c .before .if2 .left), ne-eqb _ (4 * w .record-words .result) (c .if3 .taken)))
+    (λ c. let w = c .before .before in
+    rw (later w, eq-eqb _ _ (c .before .if2 .left), eq-eqb _ (4 * w .record-words .result) (c .if3 .left))))

@@ -21,7 +21,7 @@ step-words-spec =
     (λ c κs. let d = c .before .before .before .before in
     let s = d .before .before .before .before .before .before in
     let same : length (d .decode .last .1 .0) ≡ length (s .args .heard .now) = omega (arith, d .decode .kept .1 .0) in
-    (rw same (s .pre .2), s .pre .3))
+    (rw same (s .pre .accepted), s .pre .zeros))
     (λ c κs. search needs)
     (λ c. search needs)
     (λ c. search needs)

@@ -29,6 +29,6 @@ tsendurkho-step-spec =
     (λ c κs. (good (c .before .before), c .before .if2 .taken))
     (λ c κs. good (c .before .before))
     (λ c. search needs)
-    (λ c. (sym (good (c .before .before .before .before .before)), c .before .before .step-few .ensures))
+    (λ c. let k = c .before .before in (sym (good (k .before .before .before)), k .step-few .ensures))
     (λ c. search needs)
-    (λ c. (sym (good (c .before .before .before .before .before)), c .before .before .step-many .ensures)))
+    (λ c. let k = c .before .before in (sym (good (k .before .before .before)), k .step-many .ensures)))

@@ -35,14 +35,17 @@ loop-again c =
     let i = l .loop .i in (
       omega arith,
       c .before .before .put-word .kept .0 ∙ l .loop .inv .1,
-      c .before .before .put-word .ensures ∙ rw (l .loop .inv .2) (rows-more (a .out .now) (a .at) i 4 (a .at + 4 * i) g (λ j. hex-length 4 _) (omega arith)),
+      c .before .before .put-word .ensures
+          ∙ rw (l .loop .inv .2) (rows-more (a .out .now) (a .at) i 4 (a .at + 4 * i) g (λ j. hex-length 4 _) (omega arith)),
     )
 
 returns : tie.Need-returns Inv-loop μ-loop
 unfolding textOf
 returns c =
-    let e : c .before .loop .i ≡ length (c .before .before .before .before .args .words .now) = omega arith in
-    rw e at (c .before .loop .inv .2)
+    let l = c .before in
+    let a = l .before .before .before .args in
+    let e : l .loop .i ≡ length (a .words .now) = omega arith in
+    rw e at (l .loop .inv .2)
 
 pub put-words-spec : {M : Type 1} → statement M
 put-words-spec =

@@ -12,5 +12,5 @@ word-at-spec =
     (λ c κs. search needs)
     (λ c.
     let a = c .before .before .args in
-    omega (arith, number-below (a .text .now) (a .at) 4 (c .before .before .pre .0) (omega arith)))
+    omega (arith, number-below (a .text .now) (a .at) 4 (c .before .before .pre .digits-alone) (omega arith)))
     (λ c. search needs))

@@ -30,19 +30,23 @@ loop-holds c = (search needs, refl, refl)
 loop-again : tie.Need-loop-again Inv-loop μ-loop
 loop-again c =
     let l = c .before .before in
-    let a = l .before .before .before .args in (
+    let a = l .before .before .before .args in
+    let i = l .loop .i in (
       omega arith,
       simp length-set (l .loop .inv .1),
-      rw (l .loop .inv .2, c .word-at .ensures) (rows-more (a .out .now) 0 (l .loop .i) 1 (l .loop .i) (wordIn (a .text .now) (a .at)) (λ j. refl) (omega arith)),
+      rw (l .loop .inv .2, c .word-at .ensures)
+          (rows-more (a .out .now) 0 i 1 i (wordIn (a .text .now) (a .at)) (λ j. refl) (omega arith)),
     )
 
 returns : tie.Need-returns Inv-loop μ-loop
 unfolding wordsAt
 returns c =
-    let a = c .before .before .before .before .args in
-    let e : c .before .loop .i ≡ length (a .out .now) = omega arith in
-    let done = sets-all (a .out .now) (wordsAt (a .text .now) (a .at) (length (a .out .now))) (sym (words-length (a .text .now) (a .at) (length (a .out .now)))) in
-    rw e at (c .before .loop .inv .2) ∙ done
+    let l = c .before in
+    let a = l .before .before .before .args in
+    let count = length (a .out .now) in
+    let e : l .loop .i ≡ count = omega arith in
+    let words = wordsAt (a .text .now) (a .at) count in
+    rw e at (l .loop .inv .2) ∙ sets-all (a .out .now) words (sym (words-length (a .text .now) (a .at) count))
 
 pub words-at-spec : {M : Type 1} → statement M
 words-at-spec =
@@ -53,7 +57,7 @@ words-at-spec =
     loop-holds
     (λ c. omega arith)
     (λ c. omega arith)
-    (λ c κs. (c .before .before .before .before .pre .0, omega arith))
+    (λ c κs. let s = c .before .before .before .before in record { digits-alone = s .pre .digits-alone; inside = omega arith })
     (λ c. omega arith)
     (λ c. omega arith)
     (λ c. omega arith)

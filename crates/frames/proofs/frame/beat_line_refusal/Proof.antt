@@ -2,7 +2,7 @@
 use borrow.Author.Needs.{needs}
 use borrow.Author.Tests.{le-leb, lt-leb}
 use mathlib.Core.Path.{_≡_, sym, _∙_}
-use mathlib.Core.Bool.{not}
+use mathlib.Core.Bool.{Bool, not}
 use Prim.Native.Nat.{_+_}
 use native.Mathlib.Omega.{arith}
 use lib.Dec.{leb}
@@ -15,28 +15,31 @@ use Rattle.frames.proofs.Frames.{ofFrame, frame-refused, frame-passed}
 use Rattle.frames.proofs.frame.beat_line_refusal.Statement.{statement}
 use Rattle.frames.proofs.frame.beat_line_refusal.Tie as tie
 
--- what the frame alone is refused for
-abbrev Framed : tie.After-frame-refusal → Type 0
-Framed c =
-    let a = c .before .before .before .args in
-    c .frame-refusal .result ≡ ofFrame (not (wellFormed (frameDigits (beatWords (said (a .h)))) (a .line .now))) (beatOf (a .line .now)) (a .beat + 1)
+-- is the line no frame of words, as 10 asks
+abbrev malformed : tie.Start → Bool
+malformed s = let a = s .args in not (wellFormed (frameDigits (beatWords (said (a .h)))) (a .line .now))
 
-framed : (c : tie.After-frame-refusal) → Framed c
+-- what the frame alone is refused for
+framed : (c : tie.After-frame-refusal)
+    → let s = c .before .before .before in
+    c .frame-refusal .result ≡ ofFrame (malformed s) (beatOf (s .args .line .now)) (s .args .beat + 1)
 framed c = c .frame-refusal .ensures ∙ rw (c .before .beat-words .ensures)
 
 refused : tie.Need-returns
 unfolding beatLineRefusal
 refused c =
-    let a = c .before .before .before .before .args in
-    frame-refused (not (wellFormed (frameDigits (beatWords (said (a .h)))) (a .line .now))) (beatOf (a .line .now)) (a .beat + 1) _ (framed (c .before)) (c .if1 .taken)
+    let s = c .before .before .before .before in
+    let a = s .args in
+    frame-refused (malformed s) (beatOf (a .line .now)) (a .beat + 1) _ (framed (c .before)) (c .if1 .taken)
 
 later : (c : tie.Else1)
-    → beatLineRefusal (said (c .before .before .before .before .args .h)) (c .before .before .before .before .args .beat) (c .before .before .before .before .args .line .now)
-    ≡ given 11 (not (leb (c .before .before .before .before .args .beat + 1) lastBeat)) 0
+    → let a = c .before .before .before .before .args in
+    beatLineRefusal (said (a .h)) (a .beat) (a .line .now) ≡ given 11 (not (leb (a .beat + 1) lastBeat)) 0
 unfolding beatLineRefusal
 later c =
-    let a = c .before .before .before .before .args in
-    frame-passed (not (wellFormed (frameDigits (beatWords (said (a .h)))) (a .line .now))) (beatOf (a .line .now)) (a .beat + 1) _ (framed (c .before)) (c .if1 .left)
+    let s = c .before .before .before .before in
+    let a = s .args in
+    frame-passed (malformed s) (beatOf (a .line .now)) (a .beat + 1) _ (framed (c .before)) (c .if1 .left)
 
 pub beat-line-refusal-spec : {M : Type 1} → statement M
 beat-line-refusal-spec =

@@ -7,13 +7,20 @@ use Rattle.frames.proofs.Headers.{good, sent-most}
 use Rattle.frames.proofs.frame.beat_words.Statement.{statement}
 use Rattle.frames.proofs.frame.beat_words.Tie as tie
 
-rows : (c : tie.After-struct-known) → c .before .before .args .h .n * c .before .broken-below .result ≤ 80
-rows c = rw (c .before .broken-below .ensures) (sent-most (said (c .before .before .args .h)) (c .before .before .pre) .1)
+rows : (c : tie.After-struct-known)
+    → let b = c .before in
+    b .before .args .h .n * b .broken-below .result ≤ 80
+rows c =
+    let b = c .before in
+    rw (b .broken-below .ensures) (sent-most (said (b .before .args .h)) (b .before .pre) .1)
 
-small : (c : tie.After-record-words) → c .before .before .before .args .h .n * c .before .before .broken-below .result * c .record-words .result ≤ 2000
+small : (c : tie.After-record-words)
+    → let b = c .before .before in
+    b .before .args .h .n * b .broken-below .result * c .record-words .result ≤ 2000
 small c =
-    let s = c .before .before .before in
-    rw (c .before .before .broken-below .ensures, c .record-words .ensures) (sent-most (said (s .args .h)) (s .pre) .2)
+    let b = c .before .before in
+    let s = b .before in
+    rw (b .broken-below .ensures, c .record-words .ensures) (sent-most (said (s .args .h)) (s .pre) .2)
 
 pub beat-words-spec : {M : Type 1} → statement M
 beat-words-spec =

@@ -3,14 +3,14 @@ use borrow.Author.Needs.{needs}
 use borrow.Author.Tests.{eq-eqb, ne-eqb, not-false}
 use mathlib.Core.Path.{sym, _∙_}
 use native.Mathlib.Omega.{arith}
-use Rattle.digits.proofs.Hexadecimal.{formed}
+use Rattle.digits.proofs.Hexadecimal.{readable}
 use Rattle.frames.proofs.frame.frame_refusal.Statement.{statement}
 use Rattle.frames.proofs.frame.frame_refusal.Tie as tie
 
 number-at-requires : tie.Need-number-at-requires
 number-at-requires c κs =
-    let t = formed _ _ (sym (c .before .well-formed .ensures) ∙ not-false _ (c .if1 .left)) in
-    (t .1, omega arith, omega arith)
+    let f = sym (c .before .well-formed .ensures) ∙ not-false _ (c .if1 .left) in
+    (readable _ _ f 0 4 (omega arith), omega arith)
 
 pub frame-refusal-spec : {M : Type 1} → statement M
 frame-refusal-spec =

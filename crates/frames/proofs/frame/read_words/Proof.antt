@@ -5,27 +5,32 @@ use native.Mathlib.Omega.{arith}
 use lib.ListN.{length, take}
 use lib.Seq.{length-take-le}
 use Rattle.rules.specs.Text.{wordsAt}
-use Rattle.digits.proofs.Hexadecimal.{formed}
+use Rattle.digits.proofs.Hexadecimal.{readable}
 use Rattle.digits.proofs.WordsOfText.{words-length}
 use Rattle.frames.proofs.Stores.{prefix-stored}
 use Rattle.frames.proofs.frame.read_words.Statement.{statement}
 use Rattle.frames.proofs.frame.read_words.Tie as tie
 
-whole : (c : tie.After-words-at-arg) → length (take (c .before .before .before .args .words) (c .before .before .before .args .buffer .now)) ≡ c .before .before .before .args .words
-whole c = let s = c .before .before .before in length-take-le (s .args .words) (s .args .buffer .now) (s .pre .1)
+whole : (c : tie.After-words-at-arg)
+    → let a = c .before .before .before .args in
+    length (take (a .words) (a .buffer .now)) ≡ a .words
+whole c =
+    let s = c .before .before .before in
+    length-take-le (s .args .words) (s .args .buffer .now) (s .pre .1)
 
 words-at-requires : tie.Need-words-at-requires
 words-at-requires c κs =
-    let t = formed _ _ (c .before .before .before .pre .0) in
-    (t .1, omega (arith, whole c))
+    let s = c .before .before .before in
+    readable _ _ (s .pre .0) 4 _ (omega (arith, whole c))
 
 returns : tie.Need-returns
 returns c =
     let p = c .before .before .before in
     let s = p .before .before .before in
     let a = s .args in
+    let words = wordsAt (a .line .now) 4 (a .words) in
     rw (c .before .before .words-at .ensures, whole p)
-    (prefix-stored (a .buffer .now) (wordsAt (a .line .now) 4 (a .words)) (a .words) (words-length (a .line .now) 4 (a .words)) (s .pre .1))
+    (prefix-stored (a .buffer .now) words (a .words) (words-length (a .line .now) 4 (a .words)) (s .pre .1))
 
 pub read-words-spec : {M : Type 1} → statement M
 read-words-spec =

@@ -29,11 +29,13 @@ loop-again : tie.Need-loop-again Inv-loop μ-loop
 loop-again c =
     let l = c .before .before .before .before in
     let a = l .before .before .before .before .args in
-    let v = l .loop .v in (
+    let v = l .loop .v in
+    let shown = shownText (said (a .h)) (a .table .now) in (
       omega arith,
       c .put-word2 .kept .0 ∙ l .loop .inv .1,
       c .put-word2 .ensures
-          ∙ rw (l .loop .inv .2, c .before .shown-word .ensures) (rows-more (l .before .put-word .last .0) 4 v 4 (4 + 4 * v) (shownText (said (a .h)) (a .table .now)) (λ j. hex-length 4 _) (omega arith)),
+          ∙ rw (l .loop .inv .2, c .before .shown-word .ensures)
+          (rows-more (l .before .put-word .last .0) 4 v 4 (4 + 4 * v) shown (λ j. hex-length 4 _) (omega arith)),
     )
 
 returns : tie.Need-returns Inv-loop μ-loop
@@ -43,15 +45,13 @@ returns c =
     let n = a .h .n in
     let e : l .loop .v ≡ n = omega arith in (
       omega (arith, line-length (said (a .h)) (a .beat) (a .table .now)),
-      rw (l .loop .inv .2, e, l .before .put-word .ensures) (line-stored (said (a .h)) (a .beat) (4 + 4 * n) (a .table .now) (a .out .now) refl),
+      rw (l .loop .inv .2, e, l .before .put-word .ensures)
+          (line-stored (said (a .h)) (a .beat) (4 + 4 * n) (a .table .now) (a .out .now) refl),
     )
 
 -- n is small
-few : (c : tie.After-loop Inv-loop μ-loop) → c .before .before .before .before .before .args .h .n ≤ 16
-few c = let s = c .before .before .before .before .before in good (said (s .args .h)) (s .pre .0) .shape .cards
-
-few-here : (c : tie.After-shown-word Inv-loop μ-loop) → c .before .before .before .before .before .before .before .args .h .n ≤ 16
-few-here c = let s = c .before .before .before .before .before .before .before in good (said (s .args .h)) (s .pre .0) .shape .cards
+few : (s : tie.Start Inv-loop μ-loop) → s .args .h .n ≤ 16
+few s = good (said (s .args .h)) (s .pre .passes) .shape .cards
 
 pub put-line-spec : {M : Type 1} → statement M
 put-line-spec =
@@ -64,14 +64,16 @@ put-line-spec =
     (λ c. search needs)
     (λ c. search needs)
     (λ c. search needs)
-    (λ c κs. (c .before .before .before .before .before .before .pre .0, omega arith, c .before .before .before .before .before .before .pre .1))
-    (λ c κs. omega (arith, few-here c, c .before .before .before .loop .inv .1))
+    (λ c κs. let s = c .before .before .before .before .before .before in (s .pre, omega arith))
+    (λ c κs. let l = c .before .before .before in
+    let s = l .before .before .before .before in
+    omega (arith, few s, l .loop .inv .1))
     (λ c. omega arith)
     (λ c. omega arith)
     loop-again
     (λ c. search needs)
     (λ c. search needs)
     (λ c. search needs)
-    (λ c. omega (arith, few c))
-    (λ c. omega (arith, few c))
+    (λ c. let s = c .before .before .before .before .before in omega (arith, few s))
+    (λ c. let s = c .before .before .before .before .before in omega (arith, few s))
     returns)

@@ -11,7 +11,8 @@ returns c =
     let line = c .before .before in
     let none = line .before .before in (
       sym (refusal-length (a .number) (a .refusal)),
-      rw (c .put-number2 .ensures, line .put-number .ensures, none .put-word .ensures) (refusal-stored (a .number) (a .refusal) (a .out .now)),
+      rw (c .put-number2 .ensures, line .put-number .ensures, none .put-word .ensures)
+          (refusal-stored (a .number) (a .refusal) (a .out .now)),
     )
 
 pub put-refusal-spec : {M : Type 1} → statement M

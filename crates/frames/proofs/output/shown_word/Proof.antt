@@ -15,32 +15,36 @@ use Rattle.frames.proofs.output.shown_word.Tie as tie
 
 -- the record stands in the table, near its start
 inside : (c : tie.After-record-words)
-    → (c .before .before .before .before .args .v * c .record-words .result + c .record-words .result ≤ length (c .before .before .before .before .args .table .now))
-    × (c .before .before .before .before .args .v * c .record-words .result + c .record-words .result ≤ 400)
+    → let a = c .before .before .before .before .args in
+    let end = a .v * c .record-words .result + c .record-words .result in
+    (end ≤ length (a .table .now)) × (end ≤ 400)
 inside c =
     let s = c .before .before .before .before in
     let a = s .args in
-    let v = a .v * c .record-words .result + c .record-words .result in
-    let row : v ≤ startWords (said (a .h)) = rw (c .record-words .ensures) (row-inside (a .h .n) (recordWords (a .h .f)) (a .v) (s .pre .1)) in
-    (omega (arith, s .pre .2), omega (arith, start-most (said (a .h)) (s .pre .0)))
+    let end = a .v * c .record-words .result + c .record-words .result in
+    let row : end ≤ startWords (said (a .h)) =
+    rw (c .record-words .ensures) (row-inside (a .h .n) (recordWords (a .h .f)) (a .v) (s .pre .1)) in
+    (omega (arith, s .pre .0 .room), omega (arith, start-most (said (a .h)) (s .pre .0 .passes)))
 
 sound : tie.Need-returns-2
 sound c =
     let w = c .before .before .before in
     let e = w .before in
-    let a = e .before .before .before .args in
-    let from = a .v * w .record-words .result in
-    let q : from + w .record-words .result - from ≡ w .record-words .result = omega arith in
+    let s = e .before .before .before in
+    let a = s .args in
+    let size = w .record-words .result in
+    let from = a .v * size in
+    let q : from + size - from ≡ size = omega arith in
     rw (c .word-of .ensures, c .before .shown-count .ensures .number, q)
-    (shown-sound (said (a .h)) (a .table .now) (a .v) (w .record-words .result) (e .before .before .before .pre .0) (w .record-words .ensures) (inside w .0)
+    (shown-sound (said (a .h)) (a .table .now) (a .v) size (s .pre .0 .passes) (w .record-words .ensures) (inside w .0)
     (sym (e .before .is-broken .ensures) ∙ e .if1 .left) _ refl
-    (length-take-le (w .record-words .result) (drop from (a .table .now)) (omega (arith, inside w .0, length-drop from (a .table .now)))))
+    (length-take-le size (drop from (a .table .now)) (omega (arith, inside w .0, length-drop from (a .table .now)))))
 
 pub shown-word-spec : {M : Type 1} → statement M
 shown-word-spec =
     tie.close
     (tie.spec
-    (λ c κs. omega (arith, good (said (c .before .args .h)) (c .before .pre .0) .shape .cards, c .before .pre .1))
+    (λ c κs. omega (arith, good (said (c .before .args .h)) (c .before .pre .0 .passes) .shape .cards, c .before .pre .1))
     (λ c. shown-broken _ _ _ (sym (c .before .is-broken .ensures) ∙ c .if1 .taken))
     (λ c κs. search needs)
     (λ c. search needs)

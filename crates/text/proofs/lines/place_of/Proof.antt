@@ -25,22 +25,29 @@ unfolding hasLine
 no-line-0 text k e = rw e
 
 -- the end of a line that begins within the text
-within : (c : tie.After-line-end Inv-loop μ-loop) → c .line-end .result ≤ length (c .before .before .before .before .before .args .text .now)
+within : (c : tie.After-line-end Inv-loop μ-loop)
+    → let l = c .before .before in
+    let a = l .before .before .before .args in
+    c .line-end .result ≤ length (a .text .now)
 within c =
     let l = c .before .before in
-    rw (c .line-end .ensures) (end-within (l .before .before .before .args .text .now) (l .loop .start) (omega arith))
+    let a = l .before .before .before .args in
+    rw (c .line-end .ensures) (end-within (a .text .now) (l .loop .start) (omega arith))
 
 found : tie.Need-returns-2 Inv-loop μ-loop
 found c =
     let l = c .before .before .before in
     let a = l .before .before .before .args in
     rw (c .before .line-end .ensures)
-    (line-stands (a .k) (a .text .now) (l .loop .start) (l .loop .left) (omega arith) (c .before .before .loop-test .taken) (c .if2 .taken) (l .loop .inv .0) (l .loop .inv .1))
+    (line-stands (a .k) (a .text .now) (l .loop .start) (l .loop .left) (omega arith)
+    (c .before .before .loop-test .taken) (c .if2 .taken) (l .loop .inv .0) (l .loop .inv .1))
 
 loop-again : tie.Need-loop-again Inv-loop μ-loop
 loop-again c =
     let l = c .before .before .before in
-    let p = one-passed (l .before .before .before .args .text .now) (l .loop .start) (l .loop .left) (l .loop .left - 1) (c .before .before .loop-test .taken) (omega arith) in
+    let a = l .before .before .before .args in
+    let left = l .loop .left in
+    let p = one-passed (a .text .now) (l .loop .start) left (left - 1) (c .before .before .loop-test .taken) (omega arith) in
     rw (c .before .line-end .ensures) (p .0 ∙ l .loop .inv .0, p .1 ∙ l .loop .inv .1)
 
 returns-3 : tie.Need-returns-3 Inv-loop μ-loop
@@ -48,7 +55,8 @@ unfolding linesOf
 returns-3 c =
     let l = c .before in
     let a = l .before .before .before .args in
-    let none : drop (a .k - 1) (linesOf (a .text .now)) ≡ [] = sym (l .loop .inv .0) ∙ rw (drop-of-length-le (a .text .now) {i = l .loop .start} (c .loop-test .left)) (drop-nil (l .loop .left)) in
+    let none : drop (a .k - 1) (linesOf (a .text .now)) ≡ [] =
+    sym (l .loop .inv .0) ∙ rw (drop-of-length-le (a .text .now) {i = l .loop .start} (c .loop-test .left)) (drop-nil (l .loop .left)) in
     no-line-stands (a .k) (a .text .now) (no-line (a .k) (a .text .now) (omega arith) none)
 
 pub place-of-spec : {M : Type 1} → statement M
