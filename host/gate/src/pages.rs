@@ -29,7 +29,7 @@ pub fn files(path: &Path, found: &mut Vec<PathBuf>) {
 /// The files that people read: all of the repository but the examples' data.
 pub fn texts() -> Vec<PathBuf> {
     let mut found = Vec::new();
-    for part in ["crates", "docs", "host", "include", ".ci"] {
+    for part in ["crates", "docs", "host", "include", "launch", ".ci"] {
         files(&root().join(part), &mut found);
     }
     found.extend(["README.md", "CHANGELOG.md", "tsendurkho"].map(|name| root().join(name)));
