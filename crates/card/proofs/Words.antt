@@ -18,7 +18,7 @@ use Rattle.level.specs.Groups.{Fits, heardBy}
 pub whole-heard : (recs : List ℕ) (g : Group) → g .first ≡ 0 → g .base ≡ 0 → heardBy recs g ≡ heardIn (g .w) recs
 whole-heard recs g a b = fun-ext (λ u. fun-ext (λ j. rw (a, b, zero-add u, zero-add j)))
 
--- "Words beyond are written 0"
+-- "Words beyond these are written 0 and never read." (RULES 4.1)
 pub over-zeros : (w : ℕ) (words : List ℕ) → length words ≤ w → sets (replicate w 0) 0 words ≡ padded w words
 unfolding padded
 over-zeros w words l =

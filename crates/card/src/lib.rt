@@ -1,3 +1,4 @@
+// One card's step (RULES 5) and the count that it shows (RULES 7), with their refusals.
 use level::group;
 use level::group::Group;
 use rules::Vote;
@@ -94,7 +95,7 @@ fn shown_refusal(n: u32, f: u32, c: u32, words: usize) -> u32
     0
 }
 
-// "Shown count. The outermost a, or none."
+// "The count that a card shows is the outermost a, or none." (RULES 7)
 pub fn shown_count(n: u32, f: u32, c: u32, words: &[u16]) -> Shown
     ensures { λ r. ⌜ Shows n f c (now (words .entry)) r ⌝ }
 {

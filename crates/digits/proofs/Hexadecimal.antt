@@ -97,7 +97,7 @@ pub digits-from : (text : List ℕ) (i : ℕ) → i < length text
 unfolding allDigits
 digits-from text i l = rw (add-one i, drop-cons text i 0 l)
 
--- what "not refused by 10" says
+-- what is known of a text that is not refused by 10
 pub formed : (size : ℕ) (text : List ℕ) → wellFormed size text ≡ true → (length text ≡ size) × (allDigits text ≡ true)
 unfolding wellFormed
 formed size text e =

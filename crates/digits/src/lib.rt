@@ -1,5 +1,4 @@
-// Hexadecimal digits, and the numbers that they make: "lower case, high digit first" (document 01, "Run files and the run
-// program").
+// Hexadecimal digits, and the numbers that they make: "lower case, the high digit first" (RULES 10.2).
 ghost use mathlib.Core.Path.{_≡_};
 ghost use mathlib.Core.Bool.{true, _&&_};
 ghost use Prim.Native.Nat.{_+_, _*_, _%_, _<_, _≤_};

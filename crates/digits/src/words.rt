@@ -1,4 +1,4 @@
-// Words, four digits each, and words one after the other: "A word is 4 digits."
+// Words, one after the other. "A word is 4 digits." (RULES 10.2)
 ghost use mathlib.Core.Path.{_≡_};
 ghost use Prim.Native.Nat.{_+_, _*_, _≤_};
 ghost use lib.ListN.{length};

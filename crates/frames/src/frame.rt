@@ -1,4 +1,4 @@
-// The lines of words: "its beat", 4 digits, and then words of 4 digits.
+// The lines of words: a beat of 4 digits, and then words (RULES 11.2 and 11.3).
 ghost use mathlib.Core.Path.{_≡_};
 ghost use mathlib.Core.Bool.{true, not};
 ghost use Prim.Native.Nat.{_≤_};
@@ -15,7 +15,7 @@ use digits::well_formed;
 use digits::words::words_at;
 use rack::broken::broken_below;
 
-// "Beats run from 1 to fffe."
+// "Beats run from 0001 to fffe." (RULES 11.3)
 const LAST_BEAT: u32 = 65534;
 
 // How many words line 2 has: n records.
@@ -34,7 +34,7 @@ pub fn beat_words(h: Header) -> usize
     (h.n * broken_below(h.set, h.n) * params::record_words(h.f)) as usize
 }
 
-// "On a line, 10 comes first."
+// "On every line, 10 comes first" (RULES 11.5).
 fn frame_refusal(line: &[u8], words: usize, beat: u32) -> u32
     requires { ⌜ words ≤ 2000 ⌝ }
     ensures { λ r. ⌜ r ≡ given 10 (not (wellFormed (frameDigits words) (now (line .entry))))
@@ -57,7 +57,7 @@ pub fn read_words(line: &[u8], words: usize, buffer: &mut [u16])
     words_at(line, 4, &mut buffer[..words]);
 }
 
-// "Line 2 with another beat than 0000 .. is 11."
+// "Line 2 with another beat than 0000 is 11." (RULES 11.5)
 pub fn start_line_refusal(h: Header, line: &[u8]) -> u32
     requires { ⌜ headerTests (said h) ≡ 0 ⌝ }
     ensures { λ r. ⌜ r ≡ startLineRefusal (said h) (now (line .entry)) ⌝ }
@@ -65,7 +65,7 @@ pub fn start_line_refusal(h: Header, line: &[u8]) -> u32
     frame_refusal(line, start_words(h), 0)
 }
 
-// 11 where the beat is not the next, and for "any well-formed line after beat fffe".
+// 11 where the beat is not the next one, "and so is any well-formed line after beat fffe" (RULES 11.5).
 pub fn beat_line_refusal(h: Header, beat: u16, line: &[u8]) -> u32
     requires { ⌜ headerTests (said h) ≡ 0 ⌝ }
     ensures { λ r. ⌜ r ≡ beatLineRefusal (said h) beat (now (line .entry)) ⌝ }

@@ -1,4 +1,4 @@
-// Line 1: "n (2 digits), f (2), c (4), broken set (4)".
+// Line 1: "n (2 digits), f (2 digits), c (4 digits), the broken set (4 digits)" (RULES 11.1).
 ghost use mathlib.Core.Path.{_≡_};
 ghost use mathlib.Core.Bool.{true};
 ghost use Rattle.rules.specs.RunFile.{headerTests, headerDigits, headerOf, headerRefusal};
@@ -43,7 +43,7 @@ pub fn header_tests(h: Header) -> u32
     0
 }
 
-// "On a line, 10 comes first."
+// "On every line, 10 comes first" (RULES 11.5).
 pub fn header_refusal(line: &[u8]) -> u32
     ensures { λ r. ⌜ r ≡ headerRefusal (now (line .entry)) ⌝ }
 {

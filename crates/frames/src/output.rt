@@ -1,4 +1,4 @@
-// The lines that are written: "Every output line ends with a line feed."
+// The lines that are written. "Every output line ends with a line feed." (RULES 11.4)
 ghost use mathlib.Core.Path.{_≡_};
 ghost use Prim.Native.Nat.{_<_};
 ghost use lib.ListN.{length};
@@ -14,7 +14,7 @@ const LINE_FEED: u8 = 10;
 
 const NONE_WORD: u16 = 65535;
 
-// "for each card in order, its shown count, ffff for none or broken"
+// The shown count of one card, "ffff for none and for a broken card" (RULES 11.4).
 fn shown_word(h: Header, table: &[u16], v: u32) -> u16
     requires { ⌜ (Tabled h (now table)) × (v < h .n) ⌝ }
     ensures { λ r. ⌜ r ≡ shownWord (said h) (now (table .entry)) v ⌝ }
@@ -45,7 +45,8 @@ pub fn put_line(h: Header, beat: u16, table: &[u16], out: &mut [u8; 69]) -> usiz
     end + 1
 }
 
-// Writes the line of a refusal, and answers its length: "ffff, the line's number from 1 (8 digits), the refusal (2 digits)".
+// Writes the line of a refusal, and answers its length: "ffff, the number of the line (8 digits) and the refusal (2 digits)"
+// (RULES 11.5).
 pub fn put_refusal(number: u32, refusal: u32, out: &mut [u8; 69]) -> usize
     ensures { λ r. ⌜ (r ≡ length (refusalLine number refusal))
         × (now (out .exit) ≡ sets (now (out .entry)) 0 (refusalLine number refusal)) ⌝ }

@@ -1,4 +1,4 @@
--- Two counts whose lag can be told.
+-- Two counts that have a lag: both below a modulus that is allowed.
 use Prim.Native.Nat.{ℕ, _<_, _≤_}
 use Rattle.rules.specs.Parameters.{mostModulus}
 

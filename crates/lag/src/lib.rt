@@ -1,3 +1,4 @@
+// The lag of two counts (RULES 8), with its refusals.
 ghost use mathlib.Core.Path.{_≡_};
 ghost use Prim.Native.Nat.{_<_};
 ghost use Rattle.rules.specs.Refusals.{lagRefusal};

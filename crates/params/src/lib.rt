@@ -1,3 +1,4 @@
+// What n, f and c may be, and what follows from them (RULES 2), with refusals 1, 2 and 3.
 ghost use mathlib.Core.Path.{_≡_};
 ghost use Prim.Native.Nat.{_≤_};
 ghost use Rattle.rules.specs.Parameters.{badModulus, mostBroken, recordWords};

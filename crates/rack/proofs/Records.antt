@@ -12,7 +12,7 @@ use Rattle.rack.specs.Racks.{wordsFrom, size, Accepted, SoundAsHeld, Bro
 use Rattle.rack.proofs.Accepted.{accepted, step-passes}
 use Rattle.rack.proofs.Hearing.{all-heard}
 
--- "Broken cards' held records stay unchanged"
+-- "Broken cards' held records stay unchanged." (RULES 6)
 pub broken-record : (r : Rack) (held sent : List ℕ) (v : ℕ) → isBroken (r .set) v ≡ true
     → wordsFrom held (v * size r) (size r) ≡ recordOf r held sent v
 unfolding recordAfter heldRecord

@@ -23,13 +23,13 @@ Accepted r held sent out = beatRefusal (r .n) (r .f) (r .c) (r .set) held sent o
 abbrev pub size : Rack → ℕ
 size r = recordWords (r .f)
 
--- "A sound card is heard as held"
+-- "A sound card is heard as held" (RULES 6)
 abbrev pub SoundAsHeld : Rack → List ℕ → List ℕ → Type 0
 SoundAsHeld r held heard =
     (u j : ℕ) → isBroken (r .set) u ≡ false → j < size r → heardIn (size r) heard u j ≡ heardIn (size r) held u j
 
 -- the broken cards below the card `end` are heard by the receiver v as they send: "for each receiver in order, for each
--- broken card in order, W words"
+-- broken card in order, W words" (RULES 6)
 abbrev pub BrokenAsSent : Rack → List ℕ → ℕ → ℕ → List ℕ → Type 0
 BrokenAsSent r sent v end heard =
     (u j : ℕ) → u < end → isBroken (r .set) u ≡ true → j < size r

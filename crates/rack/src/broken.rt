@@ -26,7 +26,7 @@ pub fn broken_below(set: u32, v: u32) -> u32
     count
 }
 
-// The test for refusal 7: "broken set names a card at or above n, or more than f cards".
+// The test for refusal 7: "the broken set names a card at or above n, or more than f cards" (RULES 9.1).
 pub fn set_refused(n: u32, f: u32, set: u32) -> bool
     requires { ⌜ n ≤ mostCards ⌝ }
     ensures { λ r. ⌜ r ≡ badSet n f set ⌝ }

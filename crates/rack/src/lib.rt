@@ -1,4 +1,4 @@
-// A whole beat over all cards (document 01, "Whole beat").
+// A whole beat over all cards (RULES 6).
 ghost use mathlib.Core.Path.{_≡_};
 ghost use Prim.Native.Nat.{_+_, _*_, _<_, _≤_};
 ghost use lib.ListN.{length};
@@ -31,8 +31,8 @@ pub fn copy_words(from: &[u16], at: usize, to: &mut [u16], place: usize, count: 
     }
 }
 
-// Puts what the broken cards send to the receiver v in their records' places: "for each receiver in order, for each
-// broken card in order, W words".
+// Puts what the broken cards send to the receiver v in their records' places. It is sent "for each receiver in order, for
+// each broken card in order, W words" (RULES 6).
 fn hear(rack: Rack, sent: &[u16], v: u32, heard: &mut [u16])
     requires { ⌜ (Accepted rack (length (now heard)) (length (now sent)) (length (now heard))) × (v < rack .n) ⌝ }
     ensures { λ _. ⌜ (SoundAsHeld rack (now (heard .entry)) (now (heard .exit)))
@@ -56,7 +56,7 @@ fn hear(rack: Rack, sent: &[u16], v: u32, heard: &mut [u16])
     }
 }
 
-// Writes the record of the card v after the beat: "Broken cards' held records stay unchanged."
+// Writes the record of the card v after the beat. "Broken cards' held records stay unchanged." (RULES 6)
 fn put_record(rack: Rack, held: &[u16], sent: &[u16], v: u32, heard: &mut [u16], out: &mut [u16])
     requires { ⌜ Receives rack (now held) (now sent) (now heard) (now out) v ⌝ }
     ensures { λ _. ⌜ (now (out .exit) ≡ sets (now (out .entry)) (v * size rack) (recordOf rack (now (held .entry)) (now (sent .entry)) v))

@@ -1,5 +1,4 @@
-// A run, one line after the other (document 01, "Run files and the run program"). The n records stand in the caller's
-// table, from its start on.
+// A run, one line after the other (RULES 11). The n records stand in the caller's table, from its start on.
 ghost use mathlib.Core.Path.{_≡_};
 ghost use mathlib.Core.Bool.{true};
 ghost use Prim.Native.Nat.{_≤_};
@@ -59,7 +58,7 @@ fn take_header(line: &[u8]) -> Taken
     }
 }
 
-// "Line 2: beat 0000, then n records."
+// Line 2: "The beat 0000, then the n records that the cards start with." (RULES 11.2)
 fn take_start(h: Header, line: &[u8], table: &mut [u16], out: &mut [u8; 69]) -> Taken
     requires { ⌜ Running h (now table) ⌝ }
     ensures { λ r. ⌜ Takes (Stage.AtStart h) (takeLine (atStart (said h)) (now (line .entry)))
@@ -127,7 +126,7 @@ fn next_table(h: Header, line: &[u8], table: &mut [u16])
     beat_records(h, &sent[..count], table);
 }
 
-// "Each later line: its beat, then the broken cards' words for that beat."
+// "Each later line has its beat (4 digits), then the broken cards' words for that beat." (RULES 11.3)
 fn take_beat(h: Header, beat: u16, line: &[u8], table: &mut [u16], out: &mut [u8; 69]) -> Taken
     requires { ⌜ Running h (now table) ⌝ }
     ensures { λ r. ⌜ Takes (Stage.AtBeat h beat) (takeLine (stageOf (Stage.AtBeat h beat) (now (table .entry))) (now (line .entry)))

@@ -1,4 +1,4 @@
-// Text: a record as text and back, and the lines of a text (document 01, "Run files and the run program").
+// A record as text and back (RULES 10.2), and the lines of a text (RULES 10.3).
 ghost use mathlib.Core.Path.{_≡_};
 ghost use Prim.Native.Nat.{_+_};
 ghost use lib.ListN.{length};
@@ -46,7 +46,7 @@ fn read_refusal(n: u32, f: u32, text: &[u8], out: usize) -> u32
     0
 }
 
-// Writes a record as text: "its W words and nothing else, kept as they are, in range or not".
+// Writes a record as text: "its W words and nothing else, kept as they are, in range or not" (RULES 10.2).
 pub fn write_record(n: u32, f: u32, words: &[u16], out: &mut [u8]) -> u32
     ensures { λ r. ⌜ (r ≡ writeRefusal n f (length (now (words .entry))) (length (now (out .entry))))
         × (now (out .exit) ≡ writeOut n f (now (words .entry)) (now (out .entry))) ⌝ }
@@ -72,8 +72,8 @@ pub fn read_record(n: u32, f: u32, text: &[u8], out: &mut [u16]) -> u32
     0
 }
 
-// Line k, "counted from 1": "the part without its line feed, and an empty part if there is no such line". The contract says
-// what the part holds and where in the caller's own text it begins.
+// Line k: "that part of the caller's own text, and an empty part if there is no such line, which begins where the text does"
+// (RULES 10.3). The contract says what the part holds and where it begins.
 pub fn line(text: &[u8], k: u32) -> &[u8]
     ensures { λ r. ⌜ (now r ≡ lineAt k (now (text .entry)))
         × (ptr r ≡ (ptr (text .entry) .0, startOf k (now (text .entry)) + ptr (text .entry) .1)) ⌝ }
@@ -84,7 +84,7 @@ pub fn line(text: &[u8], k: u32) -> &[u8]
     &text[start..end]
 }
 
-// "10 if there is no such line and otherwise 0".
+// "10 if there is no such line and otherwise 0" (RULES 10.3).
 pub fn line_refusal(text: &[u8], k: u32) -> u32
     ensures { λ r. ⌜ r ≡ lineRefusal k (now (text .entry)) ⌝ }
 {

@@ -1,4 +1,5 @@
-// Where the lines of a text stand: "each ended by a line feed (the last may lack it)".
+// Where the lines of a text stand. "Each line is ended by a line feed, which is not part of the line; the last line may lack
+// it." (RULES 10.3)
 ghost use mathlib.Core.Path.{_≡_};
 ghost use Rattle.text.specs.Lines.{endFrom, Placed};
 
@@ -25,7 +26,7 @@ pub fn line_end(text: &[u8], start: usize) -> usize
     end
 }
 
-// Line k, in one pass: "What follows the last line feed is a line only if it has a character."
+// Line k, in one pass. "What follows the last line feed is a line only if it has a character." (RULES 10.3)
 pub(crate) fn place_of(text: &[u8], k: u32) -> Place
     ensures { λ r. ⌜ Placed k (now (text .entry)) r ⌝ }
 {

@@ -1,4 +1,5 @@
-// What C and Rust reach: one card's step and the lag, "on numbers and byte slices, two bytes a word, low byte first".
+// What C and Rust reach: one card's step and the lag, on numbers and bytes. "From C and Rust a word is two bytes, the low byte
+// first." (RULES 10.1)
 ghost use mathlib.Core.Path.{_≡_};
 ghost use Prim.Native.Nat.{_≤_};
 ghost use lib.ListN.{length};

@@ -1,4 +1,4 @@
-// Words as bytes, "two bytes a word, low byte first".
+// Words as bytes: "a word is two bytes, the low byte first" (RULES 10.1).
 ghost use mathlib.Core.Path.{_≡_};
 ghost use Prim.Native.Nat.{_+_, _*_, _/_, _%_};
 ghost use lib.ListN.{length};
