@@ -37,7 +37,8 @@ provide() { # PRODUCT...
 }
 
 make() { # PRODUCT...
-    announce "proving $(names_of "$@"), $(expected_time "$@")"
+    time=$(expected_time "$@")
+    announce "proving $(names_of "$@"), $time"
     mkdir -p "$root/target/made"
     for product; do
         sources=$(sum_of_sources)
@@ -62,13 +63,12 @@ wait_for_others() {
     exec 9<"$root"
     if command -v flock >/dev/null && ! flock -n 9; then
         echo "tsendurkho: waiting for another build" >&2
-        flock 9
+        flock 9 || :
     fi
 }
 
 # On a terminal, a line that is written over later.
 announce() { # TEXT
-    announced=$1
     if [ -t 2 ]; then
         printf '\r\033[Ktsendurkho: %s' "$1" >&2
     else
@@ -118,7 +118,7 @@ ask_rt() { # PRODUCT
 keep_log() {
     if [ -t 2 ]; then
         tee "$log" | while read -r rt crate verdict _; do
-            [ "$rt $verdict" != "rt: proved" ] || printf '\r\033[Ktsendurkho: %s (%s proved)' "$announced" "$crate" >&2
+            [ "$rt $verdict" != "rt: proved" ] || announce "proving, $time in all; $crate is proved"
         done
     else
         cat >"$log"

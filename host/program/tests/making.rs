@@ -292,13 +292,12 @@ fn on_a_terminal_the_line_is_written_over_and_cleared() {
         "prints",
         "rt: only proved (3 s)\nother\nrt: more proved (unchanged since it was last proved)\n",
     );
-    let (clear, what) = (
-        "\r\x1b[K",
-        "the run program and the archive, about 3 minutes",
-    );
-    let line = |proved: &str| format!("{clear}tsendurkho: proving {what}{proved}");
-    let crates = line(" (only proved)") + &line(" (more proved)");
-    let said = line("") + &crates + &crates + clear;
+    let clear = "\r\x1b[K";
+    let line = |text: &str| format!("{clear}tsendurkho: proving{text}");
+    let proved = ["only", "more"].map(|name| format!(", about 3 minutes in all; {name} is proved"));
+    let crates = line(&proved[0]) + &line(&proved[1]);
+    let said =
+        line(" the run program and the archive, about 3 minutes") + &crates + &crates + clear;
     assert_eq!(on_terminal(&place, "./tsendurkho build"), said);
     assert_eq!(on_terminal(&place, "./tsendurkho build"), "");
 }
