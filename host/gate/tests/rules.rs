@@ -47,7 +47,7 @@ fn comments(source: &str) -> Vec<String> {
             .strip_prefix("-- ")
             .or_else(|| line.strip_prefix("// "));
         match comment {
-            Some(text) => *comments.last_mut().expect("the first") += &format!("{text} "),
+            Some(text) => comments.last_mut().expect("the first").extend([text, " "]),
             None => comments.push(String::new()),
         }
     }
@@ -129,7 +129,7 @@ fn the_table_of_the_rules_is_the_formulas() {
         let found = parameters(3 * f + 1, f).expect("n = 3f + 1 is allowed");
         let numbers = [found.t, found.c0, found.c1, found.restart].map(usize::from);
         assert_eq!([1, 2, 3, 4].map(cell), numbers, "f = {f}");
-        let sizes = [usize::from(found.words), usize::from(found.settled)];
+        let sizes = [found.words, found.settled];
         assert_eq!([cell(5), cell(6)], sizes, "f = {f}");
     }
 }
