@@ -3,8 +3,9 @@
 use crate::scale::{horizontal, round_step, Scale};
 use crate::svg::{group, label, rect, tenths, Element};
 
-/// A longer stretch without a count is cut, but for some beats at each of its ends.
-const LONGEST_QUIET: usize = 14;
+/// A stretch without a count that is longer than this part of all beats is cut, but for some beats
+/// at each of its ends.
+const PART: usize = 15;
 const KEPT: usize = 3;
 
 /// The width of the mark of a cut.
@@ -102,11 +103,12 @@ impl Timeline {
 
 /// The first and the last beat of each stretch that is drawn.
 fn stretches(quiet: &[bool]) -> Vec<(usize, usize)> {
+    let longest = (quiet.len() / PART).max(2 * KEPT);
     let mut stretches = Vec::new();
     let (mut first, mut beat) = (0, 0);
     while beat < quiet.len() {
         let length = quiet[beat..].iter().take_while(|&&quiet| quiet).count();
-        if length > LONGEST_QUIET {
+        if length > longest {
             stretches.push((first, beat + KEPT - 1));
             first = beat + length - KEPT;
         }
