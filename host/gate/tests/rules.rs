@@ -12,30 +12,28 @@ fn number_in_front(text: &str) -> &str {
     text[..end.unwrap_or(text.len())].trim_end_matches('.')
 }
 
-/// What follows each citation of the rules, up to the next one, with the number that is cited.
-fn citations(text: &str) -> Vec<(String, String)> {
+/// The sections that a text cites, as in "RULES 5.3".
+fn cited(text: &str) -> Vec<String> {
     let parts = text.split("RULES ").skip(1);
-    let cited = parts.filter(|part| part.starts_with(|sign: char| sign.is_ascii_digit()));
-    cited
-        .map(|part| (number_in_front(part).to_string(), part.to_string()))
-        .collect()
+    let numbers = parts.map(number_in_front).map(String::from);
+    numbers.filter(|number| !number.is_empty()).collect()
 }
 
 #[test]
 fn every_section_that_is_cited_is_there() {
     let sections = sections();
-    let mut cited = 0;
+    let mut found = 0;
     for path in texts() {
-        for (number, _) in citations(&read(&path)) {
+        for number in cited(&read(&path)) {
             assert!(
                 sections.contains_key(&number),
                 "{}: {number}",
                 path.display()
             );
-            cited += 1;
+            found += 1;
         }
     }
-    assert!(cited > 100, "{cited}");
+    assert!(found > 100, "{found}");
 }
 
 /// The comments of a source file, each as one text: lines of comment that follow one another belong together.
@@ -62,13 +60,12 @@ fn every_sentence_that_is_quoted_is_in_its_section() {
     let mut quoted = 0;
     for path in sources {
         for comment in comments(&read(&path)) {
-            for (number, text) in citations(&comment) {
-                let section = plain(&sections[&number]);
-                for quote in text.split('"').skip(1).step_by(2) {
-                    let said = section.contains(&plain(quote));
-                    assert!(said, "{}: {number}: {quote}", path.display());
-                    quoted += 1;
-                }
+            let cited = cited(&comment);
+            for quote in comment.split('"').skip(1).step_by(2) {
+                let said = |number: &String| plain(&sections[number]).contains(&plain(quote));
+                let is_said = cited.is_empty() || cited.iter().any(said);
+                assert!(is_said, "{}: {cited:?}: {quote}", path.display());
+                quoted += usize::from(!cited.is_empty());
             }
         }
     }
