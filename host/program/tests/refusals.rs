@@ -55,7 +55,7 @@ fn numbers_of_line_1() {
 
 #[test]
 fn lengths_and_missing_lines() {
-    let two = "it is missing, and a run file has two lines at least";
+    let two = "it is missing, and a run file has at least two lines";
     let empty_third = format!("{HEADER}{START}\n");
     let cut = format!("{HEADER}{START}0001\n000");
     // A record of four cards with f = 1 has 9 words, so line 2 has 1 + 36, and so has a beat with one broken card.
@@ -147,7 +147,7 @@ fn an_input_that_is_read_once() {
         ("000000030000\n", "line 1 refused (1): n has to be from 1 to 16"),
         ("060200030000\n", "line 1 refused (2): f has to be from 0 to 5, and 3f below n"),
         ("040100010000\n", "line 1 refused (3): c has to be from 2 to 65535"),
-        ("040100080010\n", "line 1 refused (7): the broken set may name f cards at most, each below n"),
+        ("040100080010\n", "line 1 refused (7): the broken set may name at most f cards, each below n"),
         ("", "line 1 refused (10): it is missing, or it has a wrong length or a character that is none of 0-9, a-f"),
         (
             "020000030000\n000000020001\n0\n",
