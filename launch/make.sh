@@ -17,32 +17,44 @@ is_made() { # PRODUCT
     [ -f "$root/$1" ] && { sum_of_sources && sha256sum <"$root/$1"; } | cmp -s - "$root/target/made/${1##*/}"
 }
 
-# Makes what is named and is not made of these sources.
-provide() { # PRODUCT...
+not_made() { # PRODUCT...
     for product; do
-        is_made "$product" || make_one "$product"
+        is_made "$product" || echo "$product"
     done
 }
 
-make_one() { # PRODUCT
-    command -v rt >/dev/null || fail "to build $(name_of "$1") takes the Rattle kit: rt is not on the PATH"
+# Makes what is named and is not made of these sources. No product has a space in its name.
+provide() { # PRODUCT...
+    missing=$(not_made "$@")
+    [ -n "$missing" ] || return 0
+    command -v rt >/dev/null || fail "$(names_of "$@") cannot be proved and built: the Rattle kit's rt is not on the PATH"
     wait_for_others
-    if ! is_made "$1"; then
-        announce "proving $(name_of "$1"), $(expected_time)"
-        sources=$(sum_of_sources)
-        build "$1" || fail_with_log "$(name_of "$1") could not be built"
-        mkdir -p "$root/target/made"
-        { printf '%s\n' "$sources" && sha256sum <"$root/$1"; } >"$root/target/made/${1##*/}"
-        [ ! -t 2 ] || printf '\r\033[K' >&2
-    fi
+    # shellcheck disable=SC2086
+    missing=$(not_made $missing)
+    # shellcheck disable=SC2086
+    [ -z "$missing" ] || make $missing
     exec 9<&-
 }
 
-name_of() { # PRODUCT
-    case $1 in
-    "$program") echo "the run program" ;;
-    *) echo "the archive" ;;
-    esac
+make() { # PRODUCT...
+    announce "proving $(names_of "$@"), $(expected_time "$@")"
+    mkdir -p "$root/target/made"
+    for product; do
+        sources=$(sum_of_sources)
+        build "$product" || fail_with_log "$(names_of "$product") could not be built"
+        { printf '%s\n' "$sources" && sha256sum <"$root/$product"; } >"$root/target/made/${product##*/}"
+    done
+    [ ! -t 2 ] || printf '\r\033[K' >&2
+}
+
+names_of() { # PRODUCT...
+    for product; do
+        [ "$product" = "$program" ] && echo "the run program" || echo "the archive"
+    done | paste -s -d '&' - | sed 's/&/ and /'
+}
+
+crate_of() { # PRODUCT
+    [ "$1" = "$program" ] && echo blockrun || echo tsendurkho
 }
 
 # Others who build here are waited for, and so are the provers that a build which was broken off has left running.
@@ -64,15 +76,18 @@ announce() { # TEXT
     fi
 }
 
-# How long the crates take that rt has not proved yet, by the seconds of the table.
-expected_time() {
-    { ls "$root/target/stamp" 2>/dev/null || :; cat "$root/docs/ECONOMY.md"; } | awk '
-        NF == 1 { proved[$1] }
-        NF == 15 && $2 != "all" && !($2 in proved) { seconds += $14 }
-        END {
-            minutes = int((seconds + 59) / 60)
-            print "about " (minutes > 1 ? minutes " minutes" : "1 minute")
-        }'
+# How long it takes, by the table's seconds: the products' own crates, and those before them that rt has to prove.
+expected_time() { # PRODUCT...
+    asked=$(for product; do crate_of "$product"; done)
+    { kept_crates && cat "$root/crates.txt" "$root/docs/ECONOMY.md"; } | awk -v asked="$(echo $asked)" -f "$root/launch/time.awk"
+}
+
+# The crates that rt has proved and that have no later file.
+kept_crates() {
+    for stamp in "$root"/target/stamp/*; do
+        crate=$root/crates/${stamp##*/}
+        [ -n "$(find "$crate" -name must-fail -prune -o -newer "$stamp" -print 2>&1 | head -n 1)" ] || echo "${stamp##*/}"
+    done
 }
 
 # rt ends with 2 where it cannot read what it made before: then it makes that anew, once.
@@ -92,10 +107,8 @@ log=$root/target/build.log
 
 # What rt prints is kept, and shown if it fails.
 ask_rt() { # PRODUCT
-    case $1 in
-    "$program") set -- check blockrun ;;
-    *) set -- staticlib tsendurkho ;;
-    esac
+    [ "$1" = "$program" ] && asked=check || asked=staticlib
+    set -- "$asked" "$(crate_of "$1")"
     mkdir -p "$root/target"
     ended=$({ { (cd "$root" && rt "$@") </dev/null 2>&1 && echo 0 >&5 || echo $? >&5; } | keep_log; } 5>&1 >/dev/null)
     return "${ended:-1}"

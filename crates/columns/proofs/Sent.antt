@@ -90,7 +90,7 @@ count-grows p u n l =
     let s : countBelow n p ≡ countBelow u p + countBelow (n - u) (λ (v : ℕ). p (u + v)) = rw e at (count-split u (n - u) p) in
     omega arith
 
--- where too many of the first u cards pass a test, too many do; at the last card they are told
+-- where too many of the first u cards pass a test, too many do; at the last card it is decided
 pub more-already : (p : ℕ → Bool) (n few u : ℕ) → u ≤ n → few < countBelow u p → ltb few (countBelow n p) ≡ true
 more-already p n few u l more = lt-ltb few (countBelow n p) (omega (arith, count-grows p u n l))
 

@@ -1,4 +1,4 @@
--- From all starting bytes and for all lies there is a run of cards that call the exported step.
+-- From all starting bytes, whatever the broken cards send, there is a run of cards that call the exported step.
 use mathlib.Core.Path.{_≡_, refl, sym, _∙_}
 use mathlib.Core.Bool.{Bool, cond}
 use mathlib.Core.List.{List}
@@ -16,7 +16,7 @@ use Rattle.rules.proofs.Shapes.{counter-passed}
 use Rattle.end_to_end.specs.OnBytes.{recordBytes, ByteRun, RunsFromAnyStart}
 
 module _ (n f c : ℕ) (sound : ℕ → Bool) (good : counterRefusal n f c 0 ≡ 0) (start : ℕ → List ℕ) (told : ℕ → ℕ → ℕ → List ℕ) where
-  -- the n records that a card hears, of what the sound ones hold and the broken ones tell it
+  -- the n records that a card hears, of what the sound ones hold and the broken ones send to it
   record-of : (ℕ → List ℕ) → (ℕ → List ℕ) → ℕ → List ℕ
   record-of held lies u = tabulate (recordBytes f) (λ j. getD (cond (sound u) (held u) (lies u)) j 0)
 
@@ -31,7 +31,8 @@ module _ (n f c : ℕ) (sound : ℕ → Bool) (good : counterRefusal n f c 0 ≡
       → getD (heard-of held lies) (u * recordBytes f + j) 0 ≡ getD (cond (sound u) (held u) (lies u)) j 0
   unfolding heard-of record-of
   heard-at held lies u j lu lj =
-      rows-at n (recordBytes f) (record-of held lies) (λ i l. tabulate-length (recordBytes f) _) u j lu lj ∙ tabulate-at (recordBytes f) _ j lj
+      rows-at n (recordBytes f) (record-of held lies) (λ i l. tabulate-length (recordBytes f) _) u j lu lj
+      ∙ tabulate-at (recordBytes f) _ j lj
 
   buffer : List ℕ
   buffer = tabulate (recordBytes f) (λ j. 0)
@@ -44,7 +45,13 @@ module _ (n f c : ℕ) (sound : ℕ → Bool) (good : counterRefusal n f c 0 ≡
   unfolding buffer
   called r v l =
       counter-passed n f c _ 0 (sym good) refl
-      ∙ rw (lt-leb n v l, heard-length (held r) (told r v), eq-eqb (2 * (n * recordWords f)) _ refl, tabulate-length (recordBytes f) (λ j. 0), eq-eqb (recordBytes f) _ refl)
+      ∙ rw (
+        lt-leb n v l,
+        heard-length (held r) (told r v),
+        eq-eqb (2 * (n * recordWords f)) _ refl,
+        tabulate-length (recordBytes f) (λ j. 0),
+        eq-eqb (recordBytes f) _ refl,
+      )
 
   run : ByteRun n f c sound
   unfolding held

@@ -99,7 +99,8 @@ module _ (n f c : ℕ) (sound : ℕ → Bool) (few : 3 * f < n) (R : ByteRun n f
         deep = omega arith;
         heard = λ r v u lv sv lu su j. within-same (recordWords f) j _ _ (word-heard r v u j lv sv lu su);
         steps = λ r v lv sv j l.
-            rw (lt-ltb j (recordWords f) l, next-bytes r v lv sv) (word-of-bytes (next r v) j (rw (next-length r v) l) ∙ next-within r v j lv);
+            rw (lt-ltb j (recordWords f) l, next-bytes r v lv sv)
+            (word-of-bytes (next r v) j (rw (next-length r v) l) ∙ next-within r v j lv);
       }
 
   -- what a sound card shows after a beat stands in its two bytes
@@ -117,7 +118,7 @@ module _ (n f c : ℕ) (sound : ℕ → Bool) (few : 3 * f < n) (R : ByteRun n f
         high = rw (held, byte-at (next q v) p 1 (2 * p + 1) (omega arith) inside (omega arith), word);
       }
 
--- Demand 3 on bytes
+-- what is promised (RULES 13), on bytes
 pub settles-on-bytes : SettlesOnBytes
 settles-on-bytes n f c sound cards R =
     let g = counter n f c sound cards R .1 in
@@ -125,5 +126,6 @@ settles-on-bytes n f c sound cards R =
       s .0,
       s .1,
       λ k v lv sv.
-          shows n f c sound (cards .few) R (settleBeats f + k - 1) (settleBeats f + k) v _ (omega (arith, beats-none, beats-mono 0 f (omega arith))) lv sv (s .2 k v lv sv),
+          let r = settleBeats f + k in
+          shows n f c sound (cards .few) R (r - 1) r v _ (omega (arith, beats-none, beats-mono 0 f (omega arith))) lv sv (s .2 k v lv sv),
     )

@@ -17,7 +17,8 @@ use Rattle.rules.specs.RunFile.{Header, frameDigits, beatOf, lastBeat, shownWor
 use Rattle.rules.proofs.Tests.{and-left, and-right, and-both}
 use Rattle.rules.proofs.Lists.{behind-seam, rows-length, rows-at}
 use Rattle.rules.proofs.Lines.{noFeed, no-lines, line-first}
-use Rattle.digits.proofs.Hexadecimal.{digit-cases, digits-append, digits-rows, hex-length, hex-digits, number-same, number-front, number-of-hex}
+use Rattle.digits.proofs.Hexadecimal.{digit-cases, digits-append, digits-rows, hex-length, hex-digits}
+use Rattle.digits.proofs.Hexadecimal.{number-same, number-front, number-of-hex}
 use Rattle.end_to_end.specs.RunFiles.{cardWord, Shows}
 
 -- a line feed is no digit
@@ -49,8 +50,10 @@ module _ (n beat : ℕ) (word : ℕ → ℕ) where
 
   pub frame-formed : wellFormed (frameDigits n) (frame n beat word) ≡ true
   unfolding wellFormed
-  frame-formed = and-both (eqb _ (frameDigits n)) _
-      (eq-eqb _ (frameDigits n) (omega (arith, length-append (hexOf 4 beat) (rows n (λ (v : ℕ). hexOf 4 (word v))), hex-length 4 beat, words-length)))
+  frame-formed =
+      let size = length-append (hexOf 4 beat) (rows n (λ (v : ℕ). hexOf 4 (word v))) in
+      and-both (eqb _ (frameDigits n)) _
+      (eq-eqb _ (frameDigits n) (omega (arith, size, hex-length 4 beat, words-length)))
       frame-digits
 
   pub frame-beat : beat ≤ noneWord → beatOf (frame n beat word) ≡ beat
@@ -82,20 +85,22 @@ line-shows h beat count table lb lc same =
     }
 
 -- it is the first of the lines, and those of the rest follow
-
-pub shown-first : (h : Header) (beat : ℕ) (table rest : List ℕ) → linesOf (outputLine h beat table ++ rest) ≡ shownLine h beat table ∷ linesOf rest
+pub shown-first : (h : Header) (beat : ℕ) (table rest : List ℕ)
+    → linesOf (outputLine h beat table ++ rest) ≡ shownLine h beat table ∷ linesOf rest
 unfolding outputLine
 shown-first h beat table rest =
-    rw (append-snoc (shownLine h beat table) lineFeed rest) (one-line (shownLine h beat table) rest (frame-digits (h .n) beat (shownWord h table)))
+    let line = shownLine h beat table in
+    rw (append-snoc line lineFeed rest) (one-line line rest (frame-digits (h .n) beat (shownWord h table)))
 
 -- the line of a refusal, which is the last one, begins with ffff
 pub refusal-alone : (k refusal : ℕ) → (line : List ℕ) × (linesOf (refusalLine k refusal) ≡ line ∷ []) × (beatOf line ≡ noneWord)
 unfolding refusalLine
 refusal-alone k refusal =
     let none = hexOf 4 noneWord in
-    let both = none ++ hexOf 8 k in (
+    let both = none ++ hexOf 8 k in
+    let digits = digits-append none _ (hex-digits 4 noneWord) (hex-digits 8 k) in (
       both ++ hexOf 2 refusal,
-      one-line (both ++ hexOf 2 refusal) [] (digits-append both _ (digits-append none _ (hex-digits 4 noneWord) (hex-digits 8 k)) (hex-digits 2 refusal)) ∙ rw no-lines,
+      one-line (both ++ hexOf 2 refusal) [] (digits-append both _ digits (hex-digits 2 refusal)) ∙ rw no-lines,
       number-front both _ 4 (omega (arith, length-append none (hexOf 8 k), hex-length 4 noneWord))
           ∙ number-front none _ 4 (omega (arith, hex-length 4 noneWord))
           ∙ number-of-hex 4 noneWord (omega arith),

@@ -15,7 +15,9 @@ use Rattle.rules.specs.Groups.{wordOf}
 use Rattle.rules.specs.WholeBeat.{badSet}
 use Rattle.rules.specs.Refusals.{given, counterRefusal, beatRefusal}
 use Rattle.rules.specs.Text.{wellFormed, wordsAt, linesOf}
-use Rattle.rules.specs.RunFile.{Header, headerTests, headerDigits, headerOf, headerRefusal, startWords, beatWords, lastBeat, beatOf, startLineRefusal, beatLineRefusal, shownWord, outputLine, refusalLine, Stage, atHeader, atStart, atBeat, accepted, orRefused, takeLine, atEnd, continued, runLines, runText}
+use Rattle.rules.specs.RunFile.{Header, headerTests, headerDigits, headerOf, headerRefusal, startWords, beatWords, lastBeat, beatOf}
+use Rattle.rules.specs.RunFile.{startLineRefusal, beatLineRefusal, shownWord, outputLine, refusalLine, Stage, atHeader, atStart, atBeat}
+use Rattle.rules.specs.RunFile.{accepted, orRefused, takeLine, atEnd, continued, runLines, runText}
 use Rattle.rules.proofs.Tests.{decided, never}
 use Rattle.rules.proofs.Shapes.{not-given, counter-accepted}
 use Rattle.rules.proofs.Lines.{no-lines, line-at}
@@ -85,7 +87,10 @@ module _ (h : Header) (line : ℕ → List ℕ) where
   refusal-output b k why size =
       let r = refusal-alone k why in
       rw (r .1)
-      (record { whole = λ e. absurd (never (sym e)); at = first-and-others b false (r .0) [] (refusal (r .2) refl) (λ i l. absurd (omega arith)) })
+      (record {
+        whole = λ e. absurd (never (sym e));
+        at = first-and-others b false (r .0) [] (refusal (r .2) refl) (λ i l. absurd (omega arith));
+      })
 
   -- what is written from a beat on for the lines that are left
   output : (b k : ℕ) (left : List (List ℕ)) → ((i : ℕ) → i < length left → getD left i [] ≡ line (b + i))
@@ -99,7 +104,8 @@ module _ (h : Header) (line : ℕ → List ℕ) where
       = λ i li. let e : b + suc i ≡ suc b + i = omega arith in rw e at (same (suc i) (omega arith)) in
       ⊎-elim
       (λ (z : eqb (refusalOn b) 0 ≡ true).
-      rw (here, taken b, z, shown-first h b (table b) _) (shown-output b _ (length left) _ (in-time b (eqb-true (refusalOn b) 0 z)) (output (suc b) (suc k) left others)))
+      rw (here, taken b, z, shown-first h b (table b) _)
+      (shown-output b _ (length left) _ (in-time b (eqb-true (refusalOn b) 0 z)) (output (suc b) (suc k) left others)))
       (λ (z : eqb (refusalOn b) 0 ≡ false). rw (here, taken b, z) (refusal-output b k (refusalOn b) (suc (length left))))
       (decided (eqb (refusalOn b) 0))
 
@@ -108,7 +114,8 @@ module _ (h : Header) (line : ℕ → List ℕ) where
     beats-accepted : (r : ℕ) → beatRefusal (h .n) (h .f) (h .c) (h .set) (length start) (length (sent r)) (length start) ≡ 0
     unfolding start sent
     beats-accepted r =
-        beat-passed h tests _ _ _ (words-length (line 0) 4 (startWords h)) (words-length (line (suc r)) 4 (beatWords h)) (words-length (line 0) 4 (startWords h))
+        let held = words-length (line 0) 4 (startWords h) in
+        beat-passed h tests _ _ _ held (words-length (line (suc r)) 4 (beatWords h)) held
 
     settled : (x : ℕ) × (x < h .c) × ((k : ℕ) → settleBeats (h .f) + k ≤ lastBeat
         → Shows h (settleBeats (h .f) + k) ((x + k) % h .c) (shownLine h (settleBeats (h .f) + k) (table (settleBeats (h .f) + k))))
@@ -132,7 +139,8 @@ module _ (h : Header) (line : ℕ → List ℕ) where
 -- what is written for a file whose line 1 is good
 file-output : (lines : List (List ℕ)) → headerRefusal (getD lines 0 []) ≡ 0
     → (size : ℕ) × (size + 1 ≡ length lines)
-    × Output (headerOf (getD lines 0 [])) (λ b. getD lines (suc b) []) 0 (acceptedFrom lines atHeader) size (linesOf (runLines 1 lines atHeader))
+    × Output (headerOf (getD lines 0 [])) (λ b. getD lines (suc b) []) 0 (acceptedFrom lines atHeader) size
+    (linesOf (runLines 1 lines atHeader))
 unfolding runLines acceptedFrom takeLine orRefused continued andOthers before headerRefusal wellFormed
 file-output [] e = absurd (omega arith)
 file-output (l ∷ left) e =
@@ -164,10 +172,15 @@ file-settles lines passed =
     let line : ℕ → List ℕ = λ b. getD lines (suc b) [] in
     let tests = header-tests (getD lines 0 []) passed in
     let s = settled h line tests in
-    let o = file-output lines passed .2 in
-    (s .0, s .1, λ k l other. written-shows h line tests k _ _ (rw (zero-add (settleBeats (h .f) + k)) at (o .at (settleBeats (h .f) + k) l)) other)
+    let o = file-output lines passed .2 in (
+      s .0,
+      s .1,
+      λ k l other.
+          let beat = settleBeats (h .f) + k in
+          written-shows h line tests k _ _ (rw (zero-add beat) at (o .at beat l)) other,
+    )
 
--- Demand 3 in run files
+-- what is promised (RULES 13), in run files
 pub settles-in-files : SettlesInFiles
 unfolding runText
 settles-in-files text passed =

@@ -1,4 +1,4 @@
--- Document 01's whole case is accepted to its end, and with `0002` as the third line it is not.
+-- The whole run file of RULES 12 is accepted to its end, and with `0002` as the third line it is not.
 use mathlib.Core.Path.{_≡_, refl}
 use mathlib.Core.Bool.{true, false}
 use mathlib.Core.List.{_++_}
@@ -13,5 +13,7 @@ use Rattle.end_to_end.specs.RunFiles.{andOthers, mayEnd, acceptedFrom, a
 pub worked-accepted :
     (acceptedFile (opening ++ line 4 1 ++ line 4 2) ≡ true)
     × (acceptedFile (opening ++ line 4 2 ++ line 4 2) ≡ false)
-unfolding countBelow rows digitsIn binaryDigits isBroken brokenBelow badSet digitOf isDigit valueOf hexOf numberAt allDigits wellFormed oneMore inFront linesOf headerOf headerRefusal startLineRefusal beatLineRefusal orRefused takeLine andOthers mayEnd acceptedFrom acceptedFile
+unfolding countBelow rows digitsIn binaryDigits isBroken brokenBelow badSet digitOf isDigit valueOf hexOf numberAt allDigits
+    wellFormed oneMore inFront linesOf headerOf headerRefusal startLineRefusal beatLineRefusal orRefused takeLine
+    andOthers mayEnd acceptedFrom acceptedFile
 worked-accepted = (refl, refl)

@@ -13,13 +13,13 @@ use Rattle.rules.specs.Refusals.{counterRefusal, stepBytesRefusal}
 use Rattle.rules.specs.Calls.{stepBytesOut}
 use Rattle.settle.specs.Run.{Cards}
 
--- the bytes of a record, "two bytes a word"
+-- the bytes of a record. RULES 10.1: "a word is two bytes"
 abbrev pub recordBytes : ℕ → ℕ
 recordBytes f = 2 * recordWords f
 
 -- `holds r v` is what the card v holds after r beats, `hears r v` the n records that it hears on the beat that follows, and
--- `before r v` what its output buffer has before the call, all as bytes. Of a card that is not sound nothing is said: it
--- holds what it likes, and tells each listener what it likes
+-- `before r v` what its output buffer has before the call, all as bytes. Nothing is said of a card that is not sound: it
+-- may hold anything, and send anything to each card
 pub record ByteRun (n f c : ℕ) (sound : ℕ → Bool) : Type 0 where
   pub holds : ℕ → ℕ → List ℕ
   pub hears : ℕ → ℕ → List ℕ
@@ -38,16 +38,16 @@ pub record Shows (f c count : ℕ) (bytes : List ℕ) : Type 0 where
   pub low : getD bytes (2 * outputPlace f) 0 ≡ count % 256
   pub high : getD bytes (2 * outputPlace f + 1) 0 ≡ count / 256
 
--- From all starting bytes, whatever the broken cards tell each listener, there is an x below c such that after T(f) + k
--- beats every sound card shows (x + k) modulo c
+-- From all starting bytes, whatever the broken cards send to each card, there is an x below c such that after T(f) + k beats
+-- every sound card shows (x + k) modulo c
 abbrev pub SettlesOnBytes : Type 0
 SettlesOnBytes =
     (n f c : ℕ) (sound : ℕ → Bool) → Cards n f sound → (R : ByteRun n f c sound)
     → (x : ℕ) × (x < c)
     × ((k v : ℕ) → v < n → sound v ≡ true → Shows f c ((x + k) % c) (R .holds (settleBeats f + k) v))
 
--- Such runs are there for all starting bytes and all lies: `start v` is what the card v starts with, and `told r v u` what v
--- hears of the broken card u after r beats
+-- There are such runs for all starting bytes and for all that the broken cards send: `start v` is what the card v starts with, and
+-- `told r v u` what v hears of the broken card u after r beats
 abbrev pub RunsFromAnyStart : Type 0
 RunsFromAnyStart =
     (n f c : ℕ) (sound : ℕ → Bool) → counterRefusal n f c 0 ≡ 0 → (start : ℕ → List ℕ) (told : ℕ → ℕ → ℕ → List ℕ)

@@ -7,7 +7,8 @@ use lib.ListN.{length, getD}
 use Rattle.rules.specs.Parameters.{noneWord, settleBeats}
 use Rattle.rules.specs.WholeBeat.{isBroken}
 use Rattle.rules.specs.Text.{numberAt, wellFormed, linesOf, lineAt}
-use Rattle.rules.specs.RunFile.{Header, headerOf, headerRefusal, frameDigits, beatOf, Stage, atHeader, atStart, atBeat, Taken, accepted, refused, takeLine, runText}
+use Rattle.rules.specs.RunFile.{Header, headerOf, headerRefusal, frameDigits, beatOf}
+use Rattle.rules.specs.RunFile.{Stage, atHeader, atStart, atBeat, Taken, accepted, refused, takeLine, runText}
 
 -- what line 1 says
 abbrev pub header : List ℕ → Header
@@ -52,7 +53,8 @@ unfoldable pub andOthers : Taken → (Stage → Bool) → Bool
 andOthers (accepted stage written) others = others stage
 andOthers (refused refusal) others = false
 
--- "If line 1 or 2 is missing, its number is given with 10."; "An end after line 2 is good."
+-- RULES 11.5: "If line 1 or line 2 is missing, its number is given with 10."; RULES 11.3: "The file may end after line 2 or after any
+-- later line."
 unfoldable pub mayEnd : Stage → Bool
 mayEnd atHeader = false
 mayEnd (atStart h) = false

@@ -11,7 +11,8 @@ use lib.ListN.{length, take, drop, length-append, length-take, length-drop, take
 use lib.Seq.{sets, sets-eq, take-all, take-at, take-append-add, drop-length, length-take-le}
 use Rattle.rules.specs.Text.{wordsAt}
 use Rattle.rules.specs.WholeBeat.{tableAfter}
-use Rattle.rules.specs.RunFile.{Stage, atHeader, atStart, atBeat, Taken, accepted, refused, startWords, beatWords, headerRefusal, startLineRefusal, beatLineRefusal, orRefused, takeLine, atEnd, refusalLine}
+use Rattle.rules.specs.RunFile.{Stage, atHeader, atStart, atBeat, Taken, accepted, refused, takeLine, atEnd, refusalLine}
+use Rattle.rules.specs.RunFile.{startWords, beatWords, headerRefusal, startLineRefusal, beatLineRefusal, orRefused}
 use Rattle.rules.proofs.Tests.{decided, le-or-lt}
 use Rattle.digits.proofs.WordsOfText.{words-length}
 use Rattle.text.specs.Lines.{lineLength, endFrom}
@@ -28,7 +29,9 @@ use Rattle.runfile.proofs.Takes.{after-length}
 use Rattle.feed.specs.declared.Feed.{Feed}
 use Rattle.feed.specs.declared.Feed.the-variants.{Reading, Stopped}
 use Rattle.feed.specs.Feeds.{lineOf, Machine, reading, stopped, longest, afterLine, ended, fed, lastFed, allWritten, finished}
-use Rattle.feed.specs.Calls.{mostWritten, numberOf, missing, machineOf, keptFeed, recordsOf, writtenBy, goingOn, heldWith, placeIn, nextOf, partTo, lineEnd, partFrom, lineAfter, Holds, Stands, Feeds, Finishes}
+use Rattle.feed.specs.Calls.{mostWritten, numberOf, missing, machineOf, keptFeed, recordsOf, writtenBy, goingOn, heldWith}
+use Rattle.feed.specs.Calls.{placeIn, nextOf, partTo, lineEnd, partFrom, lineAfter}
+use Rattle.feed.specs.Calls.{Holds, LinePart, FeedsPart, Stands, Feeds, Finishes}
 use Rattle.feed.proofs.Pieces.{unrefused, unrefused-text, fed-stopped, part-held, part-ended}
 
 -- the run as it is kept
@@ -65,42 +68,50 @@ Sized atHeader size = Unit
 Sized (atStart h) size = Unit
 Sized (atBeat h beat table) size = (length table ≡ startWords h) × (startWords h ≤ size)
 
-stands-again : (stage : Stage) (table : List ℕ) → Sized stage (length table) → stageOf (keptOf stage) (sets table 0 (tableOf stage)) ≡ stage
+stands-again : (stage : Stage) (table : List ℕ) → Sized stage (length table)
+    → stageOf (keptOf stage) (sets table 0 (tableOf stage)) ≡ stage
 unfolding stageOf keptOf tableOf Sized
 stands-again atHeader table s = refl
 stands-again (atStart h) table s = refl
 stands-again (atBeat h beat records) table s = rw (first-taken table records (startWords h) (s .0) (s .1))
 
 -- an accepted line leads to such a run
-taken-passed : (stage next : Stage) (line text : List ℕ) → takenLine stage line ≡ accepted next text → (stageTests stage ≡ 0) × (takeLine stage line ≡ accepted next text)
+taken-passed : (stage next : Stage) (line text : List ℕ) → takenLine stage line ≡ accepted next text
+    → (stageTests stage ≡ 0) × (takeLine stage line ≡ accepted next text)
 unfolding takenLine orRefused
 taken-passed stage next line text e = ⊎-elim
     (λ (z : eqb (stageTests stage) 0 ≡ true). (eqb-true (stageTests stage) 0 z, rw z at e))
     (λ (z : eqb (stageTests stage) 0 ≡ false). let k = rw z at e in let y : _≡_ {A = ℕ} 0 1 = cc in absurd (omega arith))
     (decided (eqb (stageTests stage) 0))
 
-line-sized : (stage next : Stage) (line text : List ℕ) (size : ℕ) → stageTests stage ≡ 0 → takeLine stage line ≡ accepted next text → 400 ≤ size → Sized next size
+line-sized : (stage next : Stage) (line text : List ℕ) (size : ℕ) → stageTests stage ≡ 0 → takeLine stage line ≡ accepted next text
+    → 400 ≤ size → Sized next size
 unfolding takeLine stageTests Sized
 line-sized atHeader next line text size z e l = rw (← (unrefused (headerRefusal line) _ next _ text e .1)) tt
 line-sized (atStart h) next line text size z e l =
     rw (← (unrefused (startLineRefusal h line) _ next _ text e .1)) (words-length line 4 (startWords h), omega (arith, start-most h z))
 line-sized (atBeat h beat table) next line text size z e l =
-    rw (← (unrefused (beatLineRefusal h beat line) _ next _ text e .1)) (after-length h table (wordsAt line 4 (beatWords h)), omega (arith, start-most h z))
+    rw (← (unrefused (beatLineRefusal h beat line) _ next _ text e .1))
+    (after-length h table (wordsAt line 4 (beatWords h)), omega (arith, start-most h z))
 
-pub accepted-sized : (stage next : Stage) (line text : List ℕ) (size : ℕ) → takenLine stage line ≡ accepted next text → 400 ≤ size → Sized next size
+pub accepted-sized : (stage next : Stage) (line text : List ℕ) (size : ℕ) → takenLine stage line ≡ accepted next text
+    → 400 ≤ size → Sized next size
 accepted-sized stage next line text size e l =
     let p = taken-passed stage next line text e in
     line-sized stage next line text size (p .0) (p .1) l
 
 -- and its output line is short
-line-short : (stage next : Stage) (line text : List ℕ) → stageTests stage ≡ 0 → takeLine stage line ≡ accepted next text → length text ≤ mostWritten
+line-short : (stage next : Stage) (line text : List ℕ) → stageTests stage ≡ 0 → takeLine stage line ≡ accepted next text
+    → length text ≤ mostWritten
 unfolding takeLine stageTests
 line-short atHeader next line text z e = rw (← (unrefused-text (headerRefusal line) _ next _ text e)) (omega arith)
 line-short (atStart h) next line text z e =
-    rw (← (unrefused-text (startLineRefusal h line) _ next _ text e)) (omega (arith, line-length h 0 (wordsAt line 4 (startWords h)), good h z .shape .cards))
+    rw (← (unrefused-text (startLineRefusal h line) _ next _ text e))
+    (omega (arith, line-length h 0 (wordsAt line 4 (startWords h)), good h z .shape .cards))
 line-short (atBeat h beat table) next line text z e =
+    let after = tableAfter (h .n) (h .f) (h .c) (h .set) table (wordsAt line 4 (beatWords h)) in
     rw (← (unrefused-text (beatLineRefusal h beat line) _ next _ text e))
-    (omega (arith, line-length h (beat + 1) (tableAfter (h .n) (h .f) (h .c) (h .set) table (wordsAt line 4 (beatWords h))), good h z .shape .cards))
+    (omega (arith, line-length h (beat + 1) after, good h z .shape .cards))
 
 pub accepted-short : (stage next : Stage) (line text : List ℕ) → takenLine stage line ≡ accepted next text → length text ≤ mostWritten
 accepted-short stage next line text e =
@@ -134,7 +145,8 @@ pub ends-refused : (stage : KeptStage) (t : Taken) (table out line : List ℕ) (
     → written ≡ length (refusalLine (numberOf stage) (r .refusal)) → outLast ≡ sets outNext 0 (refusalLine (numberOf stage) (r .refusal))
     → Stands (afterLine (stageOf stage table) [] t) Stopped written table out line tableNext outLast
 unfolding afterLine keptFeed recordsOf writtenBy goingOn machineOf answerOf tableIn textIn
-ends-refused stage (accepted next text) table out line r tableNext outNext outLast written t h w o = absurd (h (ap (λ (a : Answer). a .refusal) (t .answer)))
+ends-refused stage (accepted next text) table out line r tableNext outNext outLast written t h w o =
+    absurd (h (ap (λ (a : Answer). a .refusal) (t .answer)))
 ends-refused stage (refused refusal) table out line r tableNext outNext outLast written t h w o =
     let k : r .refusal ≡ refusal = ap (λ (a : Answer). a .refusal) (t .answer) in
     record {
@@ -148,7 +160,8 @@ ends-refused stage (refused refusal) table out line r tableNext outNext outLast 
 
 -- and so is an accepted one
 pub ends-accepted : (stage : KeptStage) (t : Taken) (table out line : List ℕ) (r : Answer) (tableNext outNext : List ℕ)
-    → (t ≡ refused 0 → ⊥) → ((next : Stage) (text : List ℕ) → t ≡ accepted next text → Sized next (length table) × (length text ≤ mostWritten))
+    → (t ≡ refused 0 → ⊥)
+    → ((next : Stage) (text : List ℕ) → t ≡ accepted next text → Sized next (length table) × (length text ≤ mostWritten))
     → Takes stage t table out r tableNext outNext → r .refusal ≡ 0
     → Stands (afterLine (stageOf stage table) [] t) (Reading (r .stage) 0) (r .written) table out line tableNext outNext
 unfolding afterLine keptFeed recordsOf writtenBy goingOn machineOf answerOf tableIn textIn
@@ -165,6 +178,10 @@ ends-accepted stage (accepted next text) table out line r tableNext outNext n s 
 ends-accepted stage (refused refusal) table out line r tableNext outNext n s t z =
     let k : r .refusal ≡ refusal = ap (λ (a : Answer). a .refusal) (t .answer) in
     absurd (n (ap refused (sym k ∙ z)))
+
+-- what is held of a line with a part of a piece
+abbrev heldTo : List ℕ → ℕ → List ℕ → ℕ → ℕ → List ℕ
+heldTo line held piece from end = take longest (take held line ++ take (end - from) (drop from piece))
 
 -- what is held of a line
 module _ (line : List ℕ) (held : ℕ) (size : length line ≡ longest) where
@@ -184,14 +201,17 @@ module _ (line : List ℕ) (held : ℕ) (size : length line ≡ longest) where
       (le-or-lt held longest)
 
   -- a part is held
-  pub part-holds : (part : List ℕ) (r : ℕ) (lineNext : List ℕ) → r ≡ min held longest + min (length part) (longest - min held longest)
-      → lineNext ≡ heldWith line held part → Holds line held part r lineNext
+  pub part-holds : (part : List ℕ) (r : ℕ) (lineNext : List ℕ)
+      → r ≡ min held longest + min (length part) (longest - min held longest) → lineNext ≡ heldWith line held part
+      → Holds line held part r lineNext
   part-holds part r lineNext e k =
       let room = longest - min held longest in
       let more = take room part in
       let all : length (take held line) + room ≡ longest = omega (arith, held-length) in
-      let grown : take longest (take held line ++ part) ≡ take held line ++ more = ap (λ (k : ℕ). take k (take held line ++ part)) (sym all) ∙ take-append-add (take held line) part room in
-      let count : length (take held line ++ more) ≡ r = omega (arith, length-append (take held line) more, held-length, length-take room part) in
+      let grown : take longest (take held line ++ part) ≡ take held line ++ more =
+      ap (λ (k : ℕ). take k (take held line ++ part)) (sym all) ∙ take-append-add (take held line) part room in
+      let count : length (take held line ++ more) ≡ r =
+      omega (arith, length-append (take held line) more, held-length, length-take room part) in
       let fits : min held longest + length more ≤ length line = omega (arith, length-take room part) in
       record {
         count = rw grown (sym count);
@@ -200,9 +220,9 @@ module _ (line : List ℕ) (held : ℕ) (size : length line ≡ longest) where
       }
 
   -- where the machine stands when the part has no line feed, and when it has one
-  module _ (stage : Stage) (piece : List ℕ) (from end : ℕ) (inside : from ≤ length piece) (at-end : end ≡ endFrom piece from) where
+  module _ (stage : Stage) (piece : List ℕ) (from end : ℕ) (p : LinePart piece from end) where
     pub fed-held : end ≡ length piece
-        → fed (reading stage (take held line) []) (partTo piece from end) ≡ reading stage (take longest (take held line ++ take (end - from) (drop from piece))) []
+        → fed (reading stage (take held line) []) (partTo piece from end) ≡ reading stage (heldTo line held piece from end) []
     fed-held e =
         let t = drop from piece in
         let n : nextOf piece end - from ≡ lineLength t = omega arith in
@@ -210,7 +230,7 @@ module _ (line : List ℕ) (held : ℕ) (size : length line ≡ longest) where
         rw (n, m) (rw held-all at (part-held t (take held line) stage []))
 
     pub fed-ended : end < length piece
-        → fed (reading stage (take held line) []) (partTo piece from end) ≡ ended stage (take longest (take held line ++ take (end - from) (drop from piece))) []
+        → fed (reading stage (take held line) []) (partTo piece from end) ≡ ended stage (heldTo line held piece from end) []
     fed-ended l =
         let t = drop from piece in
         let n : nextOf piece end - from ≡ lineLength t + 1 = omega arith in
@@ -230,22 +250,25 @@ holds-stands stage held r line part table out lineNext h =
       goes-on = rw (h .whole);
     }
 
-stopped-stands : (part line table out : List ℕ) → Stands (fed (machineOf Stopped line table) part) Stopped 0 table out line table out
+stopped-stands : (part line table out : List ℕ)
+    → Stands (fed (machineOf Stopped line table) part) Stopped 0 table out line table out
 unfolding keptFeed recordsOf writtenBy goingOn machineOf
 stopped-stands part line table out =
-    rw (fed-stopped [] part) (record { feed-is = refl; written-is = refl; short = omega arith; records = refl; text = refl; goes-on = refl })
+    rw (fed-stopped [] part)
+    (record { feed-is = refl; written-is = refl; short = omega arith; records = refl; text = refl; goes-on = refl })
 
 -- a part of a piece is fed, from a place that may lie behind it
-pub feeds-reading : (stage : KeptStage) (held at from end next : ℕ) (piece line table out lineNext tableNext outNext : List ℕ) (feed : Feed) (written : ℕ)
-    → from ≡ placeIn piece at → end ≡ endFrom piece from → next ≡ nextOf piece end → lineNext ≡ heldWith line held (take (end - from) (drop from piece))
-    → Stands (fed (machineOf (Reading stage held) line table) (partTo piece from end)) feed written table out lineNext tableNext outNext
+pub feeds-reading : (stage : KeptStage) (held at from end next : ℕ) (piece line table out lineNext tableNext outNext : List ℕ)
+    (feed : Feed) (written : ℕ) → from ≡ placeIn piece at → end ≡ endFrom piece from → next ≡ nextOf piece end
+    → FeedsPart stage held piece from end line table out feed written lineNext tableNext outNext
     → Feeds (Reading stage held) piece at line table out (record { feed = feed; next = next; written = written }) lineNext tableNext outNext
 unfolding lineAfter
-feeds-reading stage held at from end next piece line table out lineNext tableNext outNext feed written p e n k s =
+feeds-reading stage held at from end next piece line table out lineNext tableNext outNext feed written p e n f =
     let q : end ≡ lineEnd piece at = e ∙ rw p in
-    record { next = rw (← q) n; held = rw (← q, ← p) k; stands = rw (← q, ← p) s }
+    record { next = rw (← q) n; held = rw (← q, ← p) (f .held-is); stands = rw (← q, ← p) (f .stands) }
 
-pub feeds-stopped : (at from end next : ℕ) (piece line table out : List ℕ) → from ≡ placeIn piece at → end ≡ endFrom piece from → next ≡ nextOf piece end
+pub feeds-stopped : (at from end next : ℕ) (piece line table out : List ℕ)
+    → from ≡ placeIn piece at → end ≡ endFrom piece from → next ≡ nextOf piece end
     → Feeds Stopped piece at line table out (record { feed = Stopped; next = next; written = 0 }) line table out
 unfolding lineAfter
 feeds-stopped at from end next piece line table out p e n =
@@ -301,8 +324,9 @@ finished-is stage held line table size l =
     last-is (stageOf stage table) (take held line) [] (omega (arith, held-length line held size))
 
 -- nothing more is written after a refusal
-pub finishes-refused : (m last : Machine) (table out lineNext tableNext outNext : List ℕ) (feed : Feed) (written : ℕ) → lastFed m ≡ last → feed ≡ Stopped
-    → Stands last feed written table out lineNext tableNext outNext → Finishes m table out written tableNext outNext
+pub finishes-refused : (m last : Machine) (table out lineNext tableNext outNext : List ℕ) (feed : Feed) (written : ℕ)
+    → lastFed m ≡ last → feed ≡ Stopped → Stands last feed written table out lineNext tableNext outNext
+    → Finishes m table out written tableNext outNext
 unfolding finished allWritten keptFeed writtenBy
 finishes-refused m (reading stage held text) table out lineNext tableNext outNext feed written e k s =
     let y : Reading (keptOf stage) (length held) ≡ Stopped = sym (s .feed-is) ∙ k in
@@ -312,9 +336,11 @@ finishes-refused m (stopped text) table out lineNext tableNext outNext feed writ
     record { written = rw e (s .written-is); short = s .short; records = rw e (s .records); text = rw e (s .text) }
 
 -- after an accepted last line either it or the missing one is written
-pub finishes-accepted : (m last : Machine) (table out lineNext tableNext outNext outLast : List ℕ) (feed : Feed) (next : KeptStage) (held written more : ℕ)
+pub finishes-accepted : (m last : Machine) (table out lineNext tableNext outNext outLast : List ℕ)
+    (feed : Feed) (next : KeptStage) (held written more : ℕ)
     → lastFed m ≡ last → feed ≡ Reading next held → (writtenBy last ≡ []) ⊎ (missing next ≡ [])
-    → Stands last feed written table out lineNext tableNext outNext → more ≡ length (missing next) → outLast ≡ sets outNext 0 (missing next)
+    → Stands last feed written table out lineNext tableNext outNext
+    → more ≡ length (missing next) → outLast ≡ sets outNext 0 (missing next)
     → Finishes m table out (written + more) tableNext outLast
 unfolding finished allWritten keptFeed writtenBy
 finishes-accepted m (stopped text) table out lineNext tableNext outNext outLast feed next held written more e k one s w o =
@@ -339,7 +365,8 @@ finishes-accepted m (reading stage kept text) table out lineNext tableNext outNe
     both a b (inl p) = rw p
     both a b (inr p) = rw (p, append-nil a)
 
-line-one : (stage next : Stage) (line text : List ℕ) → takeLine stage line ≡ accepted next text → (text ≡ []) ⊎ (missing (keptOf next) ≡ [])
+line-one : (stage next : Stage) (line text : List ℕ) → takeLine stage line ≡ accepted next text
+    → (text ≡ []) ⊎ (missing (keptOf next) ≡ [])
 unfolding takeLine keptOf missing
 line-one atHeader next line text e = inl (sym (unrefused-text (headerRefusal line) _ next _ text e))
 line-one (atStart h) next line text e = inr (rw (← (unrefused (startLineRefusal h line) _ next _ text e .1)))
@@ -350,7 +377,8 @@ pub one-written : (stage : Stage) (line : List ℕ) (next : KeptStage) (held : �
 unfolding ended afterLine keptFeed writtenBy
 one-written stage line next held e = go (takenLine stage line) refl e
   where
-    go : (t : Taken) → takenLine stage line ≡ t → keptFeed (afterLine stage [] t) ≡ Reading next held → (writtenBy (afterLine stage [] t) ≡ []) ⊎ (missing next ≡ [])
+    go : (t : Taken) → takenLine stage line ≡ t → keptFeed (afterLine stage [] t) ≡ Reading next held
+        → (writtenBy (afterLine stage [] t) ≡ []) ⊎ (missing next ≡ [])
     go (accepted after text) q k =
         let n : keptOf after ≡ next = cc in
         rw n at (line-one stage after line text (taken-passed stage after line text q .1))

@@ -20,10 +20,15 @@ pub feed-from-determined : Determined feed-from-kinds.ps feed-from-kinds.r feed-
 feed-from-determined = (
   λ κs a. tt,
   λ κs a x y v w p q. (
-    same-parts x y (only-one (p .stands .feed-is) (q .stands .feed-is)) (only-one (p .next) (q .next)) (only-one (p .stands .written-is) (q .stands .written-is)),
+    same-parts x y (only-one (p .stands .feed-is) (q .stands .feed-is)) (only-one (p .next) (q .next))
+        (only-one (p .stands .written-is) (q .stands .written-is)),
     rw (only-one (p .held) (q .held), only-one (p .stands .records) (q .stands .records), only-one (p .stands .text) (q .stands .text)),
   ),
 )
 
 pub finish-determined : Determined finish-kinds.ps finish-kinds.r finish-reads.Pre finish-reads.Post
-finish-determined = (λ κs a. tt, λ κs a x y v w p q. (only-one (p .written) (q .written), rw (only-one (p .records) (q .records), only-one (p .text) (q .text))))
+finish-determined = (
+  λ κs a. tt,
+  λ κs a x y v w p q.
+      (only-one (p .written) (q .written), rw (only-one (p .records) (q .records), only-one (p .text) (q .text))),
+)

@@ -11,7 +11,8 @@ use lib.Dec.{eqb}
 use lib.ListN.{length, take, getD, length-append}
 use lib.Seq.{take-all, take-append-le, length-take-le, take-suc, append-snoc}
 use Rattle.rules.specs.Text.{lineFeed, linesOf, wellFormed}
-use Rattle.rules.specs.RunFile.{Stage, atHeader, atStart, atBeat, Taken, accepted, refused, headerRefusal, startLineRefusal, beatLineRefusal, startWords, beatWords, orRefused, takeLine, continued, runLines, runText}
+use Rattle.rules.specs.RunFile.{Stage, atHeader, atStart, atBeat, Taken, accepted, refused, takeLine, continued, runLines, runText}
+use Rattle.rules.specs.RunFile.{headerRefusal, startLineRefusal, beatLineRefusal, startWords, beatWords, orRefused}
 use Rattle.rules.proofs.Tests.{decided, le-or-lt}
 use Rattle.rules.proofs.Shapes.{not-given}
 use Rattle.rules.proofs.Lines.{noFeed, no-feed-more, no-lines, line-alone, line-first}
@@ -19,7 +20,8 @@ use Rattle.text.specs.Lines.{lineLength}
 use Rattle.frames.proofs.Headers.{start-most, sent-most}
 use Rattle.runfile.specs.Runs.{stageTests, takenLine}
 use Rattle.runfile.proofs.Takes.{taken-is}
-use Rattle.feed.specs.Feeds.{lineOf, Machine, reading, stopped, longest, withMore, afterLine, ended, fedByte, fed, lastFed, allWritten, finished, start}
+use Rattle.feed.specs.Feeds.{Machine, reading, stopped, lineOf, longest, withMore, afterLine, ended, fedByte, fed}
+use Rattle.feed.specs.Feeds.{lastFed, allWritten, finished, start}
 
 -- feeding two pieces is feeding the one and then the other
 pub fed-append : (feed : Machine) (a b : List ℕ) → fed feed (a ++ b) ≡ fed (fed feed a) b
@@ -70,14 +72,16 @@ held-enough stage line e = ⊎-elim
     (le-or-lt longest (length line))
 
 -- an accepted line leads to such a run again, and to the next line's number
-pub unrefused : (refusal : ℕ) (stage next : Stage) (text written : List ℕ) → orRefused refusal (accepted stage text) ≡ accepted next written → (refusal ≡ 0) × (stage ≡ next)
+pub unrefused : (refusal : ℕ) (stage next : Stage) (text written : List ℕ)
+    → orRefused refusal (accepted stage text) ≡ accepted next written → (refusal ≡ 0) × (stage ≡ next)
 unfolding orRefused
 unrefused refusal stage next text written e = ⊎-elim
     (λ (z : eqb refusal 0 ≡ true). (eqb-true refusal 0 z, let k = rw z at e in cc))
     (λ (z : eqb refusal 0 ≡ false). let k = rw z at e in let y : _≡_ {A = ℕ} 0 1 = cc in absurd (omega arith))
     (decided (eqb refusal 0))
 
-pub unrefused-text : (refusal : ℕ) (stage next : Stage) (text written : List ℕ) → orRefused refusal (accepted stage text) ≡ accepted next written → text ≡ written
+pub unrefused-text : (refusal : ℕ) (stage next : Stage) (text written : List ℕ)
+    → orRefused refusal (accepted stage text) ≡ accepted next written → text ≡ written
 unfolding orRefused
 unrefused-text refusal stage next text written e = ⊎-elim
     (λ (z : eqb refusal 0 ≡ true). let k = rw z at e in cc)
@@ -100,7 +104,8 @@ next-line (atBeat h beat table) next line text e t =
 -- one line is taken, and then the others are
 after-line : (stage : Stage) (written : List ℕ) (t : Taken) (goOn : Machine → List ℕ) (others : Stage → List ℕ)
     → ((w : List ℕ) → goOn (stopped w) ≡ w)
-    → ((next : Stage) (text : List ℕ) → t ≡ accepted next text → goOn (reading next [] (written ++ text)) ≡ (written ++ text) ++ others next)
+    → ((next : Stage) (text : List ℕ) → t ≡ accepted next text
+    → goOn (reading next [] (written ++ text)) ≡ (written ++ text) ++ others next)
     → goOn (afterLine stage written t) ≡ written ++ continued (lineOf stage) t others
 unfolding afterLine continued
 after-line stage written (accepted next text) goOn others s h = h next text refl ∙ append-assoc written text (others next)
@@ -152,7 +157,8 @@ nothing-fed feed = refl
 
 -- the part of a piece up to the next line feed is held
 pub part-held : (t line : List ℕ) (stage : Stage) (written : List ℕ)
-    → fed (reading stage (take longest line) written) (take (lineLength t) t) ≡ reading stage (take longest (line ++ take (lineLength t) t)) written
+    → fed (reading stage (take longest line) written) (take (lineLength t) t)
+    ≡ reading stage (take longest (line ++ take (lineLength t) t)) written
 unfolding lineLength
 part-held [] line stage written = rw (append-nil line) (nothing-fed _)
 part-held (ch ∷ rest) line stage written = ⊎-elim
@@ -174,7 +180,14 @@ feed-there (ch ∷ rest) l = ⊎-elim
 
 -- and at the line feed the line is at its end
 pub part-ended : (t line : List ℕ) (stage : Stage) (written : List ℕ) → lineLength t < length t
-    → fed (reading stage (take longest line) written) (take (lineLength t + 1) t) ≡ ended stage (take longest (line ++ take (lineLength t) t)) written
+    → fed (reading stage (take longest line) written) (take (lineLength t + 1) t)
+    ≡ ended stage (take longest (line ++ take (lineLength t) t)) written
 unfolding fed fedByte
 part-ended t line stage written l =
-    rw (add-one (lineLength t), take-suc t (lineLength t) 0 l, feed-there t l, fed-append (reading stage (take longest line) written) (take (lineLength t) t) (lineFeed ∷ []), part-held t line stage written)
+    rw (
+      add-one (lineLength t),
+      take-suc t (lineLength t) 0 l,
+      feed-there t l,
+      fed-append (reading stage (take longest line) written) (take (lineLength t) t) (lineFeed ∷ []),
+      part-held t line stage written,
+    )

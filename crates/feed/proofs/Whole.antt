@@ -17,8 +17,10 @@ use Rattle.runfile.proofs.Stores.{first-taken}
 use Rattle.feed.specs.declared.Feed.{Feed}
 use Rattle.feed.specs.declared.Feed.the-variants.{Reading, Stopped}
 use Rattle.feed.specs.declared.Fed.{Fed}
-use Rattle.feed.specs.Feeds.{lineOf, Machine, reading, stopped, afterLine, ended, fedByte, fed, lastFed, allWritten, finished, start, joined}
-use Rattle.feed.specs.Calls.{machineOf, writtenBy, goingOn, placeIn, nextOf, lineEnd, partFrom, mostWritten, Feeds, CallsWrite, feeds, turns, leaves, finishes, FeedsAll, Reached}
+use Rattle.feed.specs.Feeds.{Machine, reading, stopped, lineOf, afterLine, ended, fedByte, fed, lastFed, allWritten}
+use Rattle.feed.specs.Feeds.{finished, start, joined}
+use Rattle.feed.specs.Calls.{machineOf, writtenBy, goingOn, placeIn, nextOf, lineEnd, partFrom, mostWritten, Feeds}
+use Rattle.feed.specs.Calls.{CallsWrite, feeds, turns, leaves, finishes, FeedsAll, Reached}
 use Rattle.feed.proofs.Pieces.{fed-append, fed-stopped, fed-all, nothing-fed}
 
 -- some text was written before
@@ -26,7 +28,8 @@ unfoldable wrote : List ℕ → Machine → Machine
 wrote before (reading stage held written) = reading stage held (before ++ written)
 wrote before (stopped written) = stopped (before ++ written)
 
-after-wrote : (before written : List ℕ) (stage : Stage) (t : Taken) → afterLine stage (before ++ written) t ≡ wrote before (afterLine stage written t)
+after-wrote : (before written : List ℕ) (stage : Stage) (t : Taken)
+    → afterLine stage (before ++ written) t ≡ wrote before (afterLine stage written t)
 unfolding afterLine wrote
 after-wrote before written stage (accepted next text) = rw (append-assoc before written text)
 after-wrote before written stage (refused refusal) = rw (append-assoc before written (refusalLine (lineOf stage) refusal))
@@ -66,11 +69,13 @@ written-before (reading stage held written) = rw (append-nil written)
 written-before (stopped written) = rw (append-nil written)
 
 -- one part, and then the rest
-one-part : (feed : Machine) (part rest : List ℕ) → writtenBy (fed feed part) ++ finished (fed (goingOn (fed feed part)) rest) ≡ finished (fed feed (part ++ rest))
+one-part : (feed : Machine) (part rest : List ℕ)
+    → writtenBy (fed feed part) ++ finished (fed (goingOn (fed feed part)) rest) ≡ finished (fed feed (part ++ rest))
 one-part feed part rest =
     let m = fed feed part in
     sym (finished-wrote (writtenBy m) (fed (goingOn m) rest))
-    ∙ ap finished (sym (fed-wrote (writtenBy m) (goingOn m) rest) ∙ ap (λ (f : Machine). fed f rest) (written-before m) ∙ sym (fed-append feed part rest))
+    ∙ ap finished
+    (sym (fed-wrote (writtenBy m) (goingOn m) rest) ∙ ap (λ (f : Machine). fed f rest) (written-before m) ∙ sym (fed-append feed part rest))
 
 -- where the calls start
 starts : (line table : List ℕ) → machineOf (Reading AtHeader 0) line table ≡ start
@@ -111,20 +116,25 @@ unfolding machineOf
 still-stopped line table text = fed-stopped [] text
 
 -- what a call writes stands in its buffer
-text-in : (out outNext text : List ℕ) (written : ℕ) → length out ≡ mostWritten → written ≡ length text → written ≤ mostWritten → outNext ≡ sets out 0 text
-    → take written outNext ≡ text
+text-in : (out outNext text : List ℕ) (written : ℕ) → length out ≡ mostWritten → written ≡ length text → written ≤ mostWritten
+    → outNext ≡ sets out 0 text → take written outNext ≡ text
 text-in out outNext text written size e short o = rw o (first-taken out text written (sym e) (omega arith))
 
 -- the calls to the end of the input write what the machine does that is fed all that is left
 calls-whole : {feed : Feed} {line table : List ℕ} {at : ℕ} {pieces : List (List ℕ)} {text : List ℕ}
     → CallsWrite feed line table at pieces text → text ≡ finished (fed (machineOf feed line table) (leftOf at pieces))
 unfolding leftOf
-calls-whole (feeds {feed = feed} {piece = piece} {line = line} {table = table} {out = out} {outNext = outNext} {at = at} {others = others} {r = r} size f later) =
+calls-whole
+    (feeds {feed = feed} {piece = piece} {line = line} {table = table} {out = out} {outNext = outNext} {at = at} {others = others}
+    {r = r} size f later) =
     let m = machineOf feed line table in
     let part = partFrom piece at in
-    rw (text-in out outNext (writtenBy (fed m part)) (r .written) size (f .stands .written-is) (f .stands .short) (f .stands .text), calls-whole later, f .next, f .stands .goes-on)
+    let s = f .stands in
+    let text = text-in out outNext (writtenBy (fed m part)) (r .written) size (s .written-is) (s .short) (s .text) in
+    rw (text, calls-whole later, f .next, s .goes-on)
     (one-part m part (drop (nextOf piece (lineEnd piece at)) piece ++ joined others) ∙ rw (← append-assoc, part-and-rest piece at))
-calls-whole (turns {piece = piece} {at = at} {others = others} l later) = calls-whole later ∙ rw (all-left others, drop-of-length-le piece {i = at} l)
+calls-whole (turns {piece = piece} {at = at} {others = others} l later) =
+    calls-whole later ∙ rw (all-left others, drop-of-length-le piece {i = at} l)
 calls-whole (leaves {line = line} {table = table} {at = at} {pieces = pieces} later) =
     calls-whole later ∙ rw (still-stopped line table (leftOf 0 []), still-stopped line table (leftOf at pieces))
 calls-whole (finishes {feed = feed} {line = line} {table = table} {out = out} size f) =
@@ -132,7 +142,8 @@ calls-whole (finishes {feed = feed} {line = line} {table = table} {out = out} si
 
 -- The calls on the pieces of a text, cut anywhere, write what the rules say of the whole text: from what `start` answers on, with
 -- buffers that hold anything.
-pub calls-run : (line table : List ℕ) (pieces : List (List ℕ)) (text : List ℕ) → CallsWrite (Reading AtHeader 0) line table 0 pieces text → text ≡ runText (joined pieces)
+pub calls-run : (line table : List ℕ) (pieces : List (List ℕ)) (text : List ℕ)
+    → CallsWrite (Reading AtHeader 0) line table 0 pieces text → text ≡ runText (joined pieces)
 calls-run line table pieces text calls = calls-whole calls ∙ rw (starts line table, all-left pieces) (fed-all (joined pieces))
 
 -- what was written before changes nothing of where a text leads
@@ -149,18 +160,21 @@ goes-fed feed text =
 -- what a call leaves of a piece leads from there to where the piece leads from the call's place on
 pub part-fed : (feed : Feed) (piece : List ℕ) (at : ℕ) (line table out : List ℕ) (r : Fed) (lineNext tableNext outNext : List ℕ)
     → Feeds feed piece at line table out r lineNext tableNext outNext
-    → goingOn (fed (machineOf (r .feed) lineNext tableNext) (drop (r .next) piece)) ≡ goingOn (fed (machineOf feed line table) (drop at piece))
+    → goingOn (fed (machineOf (r .feed) lineNext tableNext) (drop (r .next) piece))
+    ≡ goingOn (fed (machineOf feed line table) (drop at piece))
 part-fed feed piece at line table out r lineNext tableNext outNext f =
     let m = machineOf feed line table in
     let part = partFrom piece at in
     let rest = drop (nextOf piece (lineEnd piece at)) piece in
-    rw (f .next, f .stands .goes-on) (goes-fed (fed m part) rest ∙ ap goingOn (sym (fed-append m part rest) ∙ rw (part-and-rest piece at)))
+    rw (f .next, f .stands .goes-on)
+    (goes-fed (fed m part) rest ∙ ap goingOn (sym (fed-append m part rest) ∙ rw (part-and-rest piece at)))
 
 -- and at the piece's end nothing is left of it
 pub all-fed : (feed : Feed) (piece : List ℕ) (at : ℕ) (line table : List ℕ) → length piece ≤ at
     → goingOn (fed (machineOf feed line table) (drop at piece)) ≡ machineOf feed line table
 unfolding machineOf goingOn
-all-fed (Reading stage held) piece at line table l = rw (drop-of-length-le piece {i = at} l, nothing-fed (reading (stageOf stage table) (take held line) []))
+all-fed (Reading stage held) piece at line table l =
+    rw (drop-of-length-le piece {i = at} l, nothing-fed (reading (stageOf stage table) (take held line) []))
 all-fed Stopped piece at line table l = rw (fed-stopped [] (drop at piece))
 
 -- the start is reached by no piece, and from any run that is reached one piece more leads to another

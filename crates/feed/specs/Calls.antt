@@ -47,6 +47,12 @@ goingOn (stopped written) = stopped []
 abbrev pub heldWith : List ℕ → ℕ → List ℕ → List ℕ
 heldWith line held part = sets line (min held longest) (take (longest - min held longest) part)
 
+-- what `hold` asks: the buffer of a line, and a part of a piece
+pub record HoldAsks (line piece : List ℕ) (from end : ℕ) : Type 0 where
+  pub line-size : length line ≡ longest
+  pub forward : from ≤ end
+  pub inside : end ≤ length piece
+
 -- a part is held
 pub record Holds (line : List ℕ) (held : ℕ) (part : List ℕ) (r : ℕ) (lineNext : List ℕ) : Type 0 where
   pub count : r ≡ length (take longest (take held line ++ part))
@@ -83,12 +89,32 @@ lineEnd piece at = endFrom piece (placeIn piece at)
 abbrev pub partFrom : List ℕ → ℕ → List ℕ
 partFrom piece at = partTo piece (placeIn piece at) (lineEnd piece at)
 
+-- the buffers have room for the longest line and for the records of any run
+pub record Buffers (line table : List ℕ) : Type 0 where
+  pub line-size : length line ≡ longest
+  pub table-size : 400 ≤ length table
+
+-- a part of a piece up to a line's end
+pub record LinePart (piece : List ℕ) (from end : ℕ) : Type 0 where
+  pub inside : from ≤ length piece
+  pub at-end : end ≡ endFrom piece from
+
+-- such a part is fed to a run that reads
+pub record FeedsPart (stage : KeptStage) (held : ℕ) (piece : List ℕ) (from end : ℕ) (line table out : List ℕ)
+    (feed : Feed) (written : ℕ) (lineNext tableNext outNext : List ℕ) : Type 0 where
+  pub held-is : lineNext ≡ heldWith line held (take (end - from) (drop from piece))
+  pub stands :
+      Stands (fed (machineOf (Reading stage held) line table) (partTo piece from end)) feed written table out lineNext tableNext outNext
+
+-- the buffer of the line when a piece was fed from a place on
 unfoldable pub lineAfter : Feed → List ℕ → ℕ → List ℕ → List ℕ
-lineAfter (Reading stage held) piece at line = heldWith line held (take (lineEnd piece at - placeIn piece at) (drop (placeIn piece at) piece))
+lineAfter (Reading stage held) piece at line =
+    heldWith line held (take (lineEnd piece at - placeIn piece at) (drop (placeIn piece at) piece))
 lineAfter Stopped piece at line = line
 
 -- a part of a piece is fed
-pub record Feeds (feed : Feed) (piece : List ℕ) (at : ℕ) (line table out : List ℕ) (r : Fed) (lineNext tableNext outNext : List ℕ) : Type 0 where
+pub record Feeds (feed : Feed) (piece : List ℕ) (at : ℕ) (line table out : List ℕ) (r : Fed)
+    (lineNext tableNext outNext : List ℕ) : Type 0 where
   pub next : r .next ≡ nextOf piece (lineEnd piece at)
   pub held : lineNext ≡ lineAfter feed piece at line
   pub stands : Stands (fed (machineOf feed line table) (partFrom piece at)) (r .feed) (r .written) table out lineNext tableNext outNext
@@ -129,7 +155,8 @@ pub data CallsWrite : (feed : Feed) (line table : List ℕ) (at : ℕ) (pieces :
 
 -- all of a piece is fed: the run stands where that leads
 abbrev pub FeedsAll : Feed → List ℕ → List ℕ → List ℕ → Feed → List ℕ → List ℕ → Type 0
-FeedsAll feed piece line table feedNext lineNext tableNext = machineOf feedNext lineNext tableNext ≡ goingOn (fed (machineOf feed line table) piece)
+FeedsAll feed piece line table feedNext lineNext tableNext =
+    machineOf feedNext lineNext tableNext ≡ goingOn (fed (machineOf feed line table) piece)
 
 -- the run stands where some pieces, fed one after the other from the start on, lead
 pub record Reached (feed : Feed) (line table : List ℕ) : Type 0 where

@@ -8,7 +8,7 @@ use Rattle.rules.specs.Text.{lineFeed}
 use Rattle.rules.specs.RunFile.{Stage, atHeader, atStart, atBeat, Taken, accepted, refused, atEnd, refusalLine}
 use Rattle.runfile.specs.Runs.{takenLine}
 
--- the number of the line that a run waits for, "from 1"
+-- the number of the line that a run waits for. RULES 10.3: "Lines are counted from 1."
 unfoldable pub lineOf : Stage → ℕ
 lineOf atHeader = 1
 lineOf (atStart h) = 2
@@ -47,7 +47,7 @@ unfoldable pub fed : Machine → List ℕ → Machine
 fed feed [] = feed
 fed feed (ch ∷ rest) = fed (fedByte feed ch) rest
 
--- the input is at its end: "What follows the last line feed is a line only if it has a character"
+-- The input is at its end. RULES 10.3: "What follows the last line feed is a line only if it has a character."
 unfoldable pub lastFed : Machine → Machine
 lastFed (reading stage [] written) = reading stage [] written
 lastFed (reading stage (ch ∷ held) written) = ended stage (ch ∷ held) written

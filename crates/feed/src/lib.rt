@@ -1,14 +1,13 @@
-// A run file in pieces, cut anywhere (document 01, "Run files and the run program"): the characters of an unfinished line
-// are kept in the caller's buffer.
+// A run file (RULES 11) in pieces, cut anywhere: the characters of an unfinished line are kept in the caller's buffer.
 ghost use mathlib.Core.Path.{_≡_};
 ghost use mathlib.Core.List.{[]};
 ghost use Prim.Native.Nat.{_+_, _-_, _≤_, min};
 ghost use lib.ListN.{length, take, drop};
 ghost use lib.Seq.{sets};
-ghost use Rattle.text.specs.Lines.{endFrom};
 ghost use Rattle.runfile.specs.Runs.{stageOf};
-ghost use Rattle.feed.specs.Feeds.{longest, ended, fed};
-ghost use Rattle.feed.specs.Calls.{numberOf, missing, heldWith, partTo, Holds, machineOf, Stands, Feeds, Finishes};
+ghost use Rattle.feed.specs.Feeds.{ended};
+ghost use Rattle.feed.specs.Calls.{numberOf, missing, machineOf};
+ghost use Rattle.feed.specs.Calls.{HoldAsks, Holds, Buffers, LinePart, FeedsPart, Stands, Feeds, Finishes};
 use frames::output::put_refusal;
 use runfile::Stage;
 use runfile::line_taken;
@@ -53,7 +52,7 @@ fn keep(line: &mut [u8], held: usize, piece: &[u8], from: usize, count: usize)
 
 // Holds a part of a piece behind what is held of the line, as far as there is room, and answers how much is held then.
 fn hold(line: &mut [u8], held: usize, piece: &[u8], from: usize, end: usize) -> usize
-    requires { ⌜ (length (now line) ≡ longest) × (from ≤ end) × (end ≤ length (now piece)) ⌝ }
+    requires { ⌜ HoldAsks (now line) (now piece) from end ⌝ }
     ensures { λ r. ⌜ Holds (now (line .entry)) held (take (end - from) (drop from (now (piece .entry)))) r (now (line .exit)) ⌝ }
 {
     let start = least(held, LONGEST);
@@ -62,7 +61,7 @@ fn hold(line: &mut [u8], held: usize, piece: &[u8], from: usize, end: usize) -> 
     start + count
 }
 
-// The number of the line that a run waits for, "from 1".
+// The number of the line that a run waits for. RULES 10.3: "Lines are counted from 1."
 fn number_of(stage: Stage) -> u32
     ensures { λ r. ⌜ r ≡ numberOf stage ⌝ }
 {
@@ -73,10 +72,11 @@ fn number_of(stage: Stage) -> u32
     }
 }
 
-// The line is at its end: it is taken, or its refusal is written, "and stops".
+// The line is at its end: it is taken, or its refusal is written and the run stops (RULES 11.5).
 fn end_line(stage: Stage, line: &[u8], held: usize, table: &mut [u16], out: &mut [u8; 69]) -> Ended
     requires { ⌜ (held ≤ length (now line)) × (400 ≤ length (now table)) ⌝ }
-    ensures { λ r. ⌜ Stands (ended (stageOf stage (now (table .entry))) (take held (now (line .entry))) []) (r .feed) (r .written) (now (table .entry)) (now (out .entry)) (now (line .entry)) (now (table .exit)) (now (out .exit)) ⌝ }
+    ensures { λ r. ⌜ Stands (ended (stageOf stage (now (table .entry))) (take held (now (line .entry))) []) (r .feed) (r .written)
+        (now (table .entry)) (now (out .entry)) (now (line .entry)) (now (table .exit)) (now (out .exit)) ⌝ }
 {
     let taken = line_taken(stage, &line[..held], table, out);
     let refusal = taken.refusal;
@@ -105,8 +105,9 @@ fn feed_part(
     table: &mut [u16],
     out: &mut [u8; 69],
 ) -> Ended
-    requires { ⌜ (from ≤ length (now piece)) × (end ≡ endFrom (now piece) from) × (length (now line) ≡ longest) × (400 ≤ length (now table)) ⌝ }
-    ensures { λ r. ⌜ (now (line .exit) ≡ heldWith (now (line .entry)) held (take (end - from) (drop from (now (piece .entry))))) × (Stands (fed (machineOf (Feed.Reading stage held) (now (line .entry)) (now (table .entry))) (partTo (now (piece .entry)) from end)) (r .feed) (r .written) (now (table .entry)) (now (out .entry)) (now (line .exit)) (now (table .exit)) (now (out .exit))) ⌝ }
+    requires { ⌜ (LinePart (now piece) from end) × (Buffers (now line) (now table)) ⌝ }
+    ensures { λ r. ⌜ FeedsPart stage held (now (piece .entry)) from end (now (line .entry)) (now (table .entry)) (now (out .entry))
+        (r .feed) (r .written) (now (line .exit)) (now (table .exit)) (now (out .exit)) ⌝ }
 {
     let count = hold(line, held, piece, from, end);
     if end == piece.len() {
@@ -127,7 +128,8 @@ pub fn feed_from(
     table: &mut [u16; 400],
     out: &mut [u8; 69],
 ) -> Fed
-    ensures { λ r. ⌜ Feeds feed (now (piece .entry)) at (now (line .entry)) (now (table .entry)) (now (out .entry)) r (now (line .exit)) (now (table .exit)) (now (out .exit)) ⌝ }
+    ensures { λ r. ⌜ Feeds feed (now (piece .entry)) at (now (line .entry)) (now (table .entry)) (now (out .entry)) r
+        (now (line .exit)) (now (table .exit)) (now (out .exit)) ⌝ }
 {
     let from = least(at, piece.len());
     let end = line_end(piece, from);
@@ -150,7 +152,8 @@ pub fn feed_from(
     }
 }
 
-// "If line 1 or 2 is missing, its number is given with 10."; "An end after line 2 is good."
+// RULES 11.5: "If line 1 or line 2 is missing, its number is given with 10."; RULES 11.3: "The file may end after line 2 or after any
+// later line."
 fn put_missing(stage: Stage, out: &mut [u8; 69]) -> usize
     ensures { λ r. ⌜ (r ≡ length (missing stage)) × (now (out .exit) ≡ sets (now (out .entry)) 0 (missing stage)) ⌝ }
 {
@@ -161,7 +164,7 @@ fn put_missing(stage: Stage, out: &mut [u8; 69]) -> usize
     }
 }
 
-// The input is at its end: "each ended by a line feed (the last may lack it)".
+// The input is at its end. RULES 10.3: "the last line may lack" its line feed.
 fn finish_line(
     stage: Stage,
     held: usize,
@@ -169,8 +172,9 @@ fn finish_line(
     table: &mut [u16],
     out: &mut [u8; 69],
 ) -> usize
-    requires { ⌜ (length (now line) ≡ longest) × (400 ≤ length (now table)) ⌝ }
-    ensures { λ r. ⌜ Finishes (machineOf (Feed.Reading stage held) (now (line .entry)) (now (table .entry))) (now (table .entry)) (now (out .entry)) r (now (table .exit)) (now (out .exit)) ⌝ }
+    requires { ⌜ Buffers (now line) (now table) ⌝ }
+    ensures { λ r. ⌜ Finishes (machineOf (Feed.Reading stage held) (now (line .entry)) (now (table .entry)))
+        (now (table .entry)) (now (out .entry)) r (now (table .exit)) (now (out .exit)) ⌝ }
 {
     if held == 0 {
         return put_missing(stage, out);
@@ -186,7 +190,8 @@ fn finish_line(
 
 // Writes what is left to write where the input ends, and answers how long it is.
 pub fn finish(feed: Feed, line: &[u8; 8005], table: &mut [u16; 400], out: &mut [u8; 69]) -> usize
-    ensures { λ r. ⌜ Finishes (machineOf feed (now (line .entry)) (now (table .entry))) (now (table .entry)) (now (out .entry)) r (now (table .exit)) (now (out .exit)) ⌝ }
+    ensures { λ r. ⌜ Finishes (machineOf feed (now (line .entry)) (now (table .entry)))
+        (now (table .entry)) (now (out .entry)) r (now (table .exit)) (now (out .exit)) ⌝ }
 {
     match feed {
         Feed::Stopped => 0,

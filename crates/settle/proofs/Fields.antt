@@ -11,8 +11,10 @@ use borrow.Author.Tests.{ne-eqb}
 use Rattle.rules.specs.declared.Vote.{Vote}
 use Rattle.rules.specs.declared.Vote.the-variants.{Count, None}
 use Rattle.rules.specs.Parameters.{c1, restart, noneWord, recordWords}
-use Rattle.rules.specs.Groups.{halfCards, halfFirst, halfBroken, halfModulus, halfOf, heardInHalf, readVote, wordOf, bitOf, outputOf, outputPlace, keptVote, keptWait, keptB}
-use Rattle.rules.specs.OneBeat.{Standing, follows, cooldown, keptD, phase, gained, nextM, nextVote, nextWait, nextStanding, levelNext, groupNext}
+use Rattle.rules.specs.Groups.{halfCards, halfFirst, halfBroken, halfModulus, halfOf, heardInHalf}
+use Rattle.rules.specs.Groups.{readVote, wordOf, bitOf, outputOf, outputPlace, keptVote, keptWait, keptB}
+use Rattle.rules.specs.OneBeat.{Standing, follows, cooldown, keptD, phase, gained}
+use Rattle.rules.specs.OneBeat.{nextM, nextVote, nextWait, nextStanding, levelNext, groupNext}
 use Rattle.rules.proofs.Votes.{read-count, read-none}
 use Rattle.rules.proofs.Lists.{before-seam, behind-seam}
 use Rattle.settle.specs.Run.{Run}
@@ -111,15 +113,20 @@ module _ (n f c : ℕ) (sound : ℕ → Bool) (pos : 1 ≤ f) (R : Run n f c sou
       (λ x e. vote-below n f (halfModulus i f) _ x e))
 
   pub wait-after : (i r v : ℕ) → c1 f ≤ noneWord → i < 2 → v < n → sound v ≡ true
-      → keptWait i f (R .words (r + 1) v)
-      ≡ cooldown (halfModulus i f) (restart f) (keptVote i f (R .words r v)) (keptVote i f (R .words (r + 1) v)) (keptWait i f (R .words r v))
+      → let old = R .words r v in
+      let new = R .words (r + 1) v in
+      keptWait i f new ≡ cooldown (halfModulus i f) (restart f) (keptVote i f old) (keptVote i f new) (keptWait i f old)
   unfolding levelNext nextWait
   wait-after i r v small l lv sv =
       let word : R .words (r + 1) v (4 + i) ≡ nextWait i n f (R .hear r v) (R .hear r v v) =
       each-half (λ i. R .words (r + 1) v (4 + i) ≡ nextWait i n f (R .hear r v) (R .hear r v v))
       (level-word r v 4 lv sv (omega arith)) (level-word r v 5 lv sv (omega arith)) i l in
+      let old = R .words r v in
       rw (word, own r v lv sv, vote-after i r v small l lv sv)
-      (omega (arith, cooldown-le (halfModulus i f) (restart f) (keptWait i f (R .words r v)) (keptVote i f (R .words r v)) (nextVote i n f (R .hear r v)) (omega arith)))
+      (omega (
+        arith,
+        cooldown-le (halfModulus i f) (restart f) (keptWait i f old) (keptVote i f old) (nextVote i n f (R .hear r v)) (omega arith),
+      ))
 
   -- what is read of a: a group that is split keeps it in its word 6
   output-is : (words : ℕ → ℕ) → outputOf f c words ≡ readVote c (words 6)
@@ -127,7 +134,8 @@ module _ (n f c : ℕ) (sound : ℕ → Bool) (pos : 1 ≤ f) (R : Run n f c sou
 
   -- a and b take one step of the phase king, at the card's own phase
   pub beat : (r : ℕ) → 0 < c → c ≤ noneWord
-      → Beat n f c sound (phaseAt n f (R .words) r) (standing f c (R .words r)) (λ v u. outputOf f c (R .hear r v u)) (standing f c (R .words (r + 1)))
+      → Beat n f c sound (phaseAt n f (R .words) r) (standing f c (R .words r)) (λ v u. outputOf f c (R .hear r v u))
+      (standing f c (R .words (r + 1)))
   unfolding levelNext nextStanding stepped
   beat r p small =
       record {

@@ -29,7 +29,7 @@ inc-less m x l = ⊎-elim
     (λ (k : x + 1 < m). omega (arith, inc-up m x k))
     (eq-or-lt-of-le (omega arith))
 
--- it is document 01's "plus 1, modulo m"
+-- it is "plus 1, modulo m" of the rules
 pub plus-one : (m x : ℕ) → x < m → plusOne m x ≡ inc m x
 plus-one m x l = ⊎-elim
     (λ (e : x + 1 ≡ m). rw (inc-wrap m x e, e, mod-self))
@@ -80,6 +80,10 @@ module _ (m : ℕ) (D : ℕ → ℕ) (from len : ℕ) (counts : Counts m D from 
   hits q x l h b =
       let d = counts .below q l (omega arith) in
       ⊎-elim
-      (λ (a : D q ≤ x). (q + (x - D q), omega arith, omega arith, comes-to 0 q (q + (x - D q)) x l (omega arith) (omega arith) (omega arith) b))
-      (λ (a : x < D q). (q + (m + x - D q), omega arith, omega arith, comes-to 1 q (q + (m + x - D q)) x l (omega arith) (omega arith) (omega arith) b))
+      (λ (a : D q ≤ x).
+      let g = q + (x - D q) in
+      (g, omega arith, omega arith, comes-to 0 q g x l (omega arith) (omega arith) (omega arith) b))
+      (λ (a : x < D q).
+      let g = q + (m + x - D q) in
+      (g, omega arith, omega arith, comes-to 1 q g x l (omega arith) (omega arith) (omega arith) b))
       (le-or-lt (D q) x)

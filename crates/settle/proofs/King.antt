@@ -32,7 +32,7 @@ pub record Agreed (n c : ℕ) (sound : ℕ → Bool) (x : ℕ) (s : ℕ → Stan
   pub below : x < c
 
 module _ (n f : ℕ) (sound : ℕ → Bool) (cards : Cards n f sound) (c : ℕ) where
-  -- a count that a card finds supported lies below c, more than f cards told it, and a sound one did
+  -- a count that a card finds supported lies below c, more than f cards sent it, and a sound one did
   supported-is : (heard : ℕ → Vote) (i : ℕ) → supported n f c heard ≡ Count i
       → (i < c) × (f < sentBy n heard (Count i)) × ((u : ℕ) × (u < n) × (sound u ≡ true) × (heard u ≡ Count i))
   unfolding supported sentBy
@@ -42,23 +42,26 @@ module _ (n f : ℕ) (sound : ℕ → Bool) (cards : Cards n f sound) (c : ℕ) 
       let u = sound-one n f sound cards (λ u. same (heard u) (Count i)) m in
       (r .0, m, (u .0, u .1, u .2, same-true (heard (u .0)) (Count i) (u .3)))
 
-  -- where n-f cards tell one card a count, any other card finds some count supported
+  -- where n-f cards send one card a count, any other card finds some count supported
   enough-supported : (x y : ℕ → Vote) (i : ℕ) → ((u : ℕ) → u < n → sound u ≡ true → x u ≡ y u) → i < c
       → enough n f (sentBy n x (Count i)) ≡ true → (j : ℕ) × (supported n f c y ≡ Count j)
   unfolding supported sentBy enough
   enough-supported x y i h l e =
       least-some c (λ z. ltb f (countBelow n (λ u. same (y u) (Count z)))) i l
-      (lt-ltb f _ (carry n f sound cards (λ u. same (x u) (Count i)) (λ u. same (y u) (Count i)) (leb-true n _ e) (λ u lu su t. rw (h u lu su) at t)))
+      (lt-ltb f _
+      (carry n f sound cards (λ u. same (x u) (Count i)) (λ u. same (y u) (Count i)) (leb-true n _ e) (λ u lu su t. rw (h u lu su) at t)))
 
-  -- a count that all sound cards tell is the one found
-  all-supported : (heard : ℕ → Vote) (x : ℕ) → x < c → ((u : ℕ) → u < n → sound u ≡ true → heard u ≡ Count x) → supported n f c heard ≡ Count x
+  -- a count that all sound cards send is the one found
+  all-supported : (heard : ℕ → Vote) (x : ℕ) → x < c → ((u : ℕ) → u < n → sound u ≡ true → heard u ≡ Count x)
+      → supported n f c heard ≡ Count x
   all-supported heard x l h =
       let r = enough-supported heard heard x (λ u lu su. refl) l (all-enough n f sound cards heard (Count x) h) in
       let u = supported-is heard (r .0) (r .1) .2 in
       cc (r .1, u .3, h (u .0) (u .1) (u .2))
 
 -- agreement stays, whatever step each card takes
-pub persist : (n f c : ℕ) (sound : ℕ → Bool) → Cards n f sound → (d : ℕ → ℕ) (s : ℕ → Standing) (hear : ℕ → ℕ → Vote) (s′ : ℕ → Standing) (x : ℕ)
+pub persist : (n f c : ℕ) (sound : ℕ → Bool) → Cards n f sound
+    → (d : ℕ → ℕ) (s : ℕ → Standing) (hear : ℕ → ℕ → Vote) (s′ : ℕ → Standing) (x : ℕ)
     → Beat n f c sound d s hear s′ → Agreed n c sound x s → Agreed n c sound (inc c x) s′
 unfolding stepped threeSteps gained step0 step1 step2 obeyed
 persist n f c sound cards d s hear s′ x beat agreed =
@@ -121,7 +124,8 @@ module _ (n f c : ℕ) (sound : ℕ → Bool) (cards : Cards n f sound) (two : 2
   at-second : (v : ℕ) → v < n → sound v ≡ true
       → s2 v ≡ record { a = gained c (supported n f c (h1 v)); b = enough n f (sentBy n (h1 v) (s1 v .a)) }
   unfolding stepped threeSteps step1
-  at-second v lv sv = rw (b1 .moved v lv sv, ne-eqb (d1 v % 3) 0 (omega (arith, p1 v lv sv)), eq-eqb (d1 v % 3) 1 (omega (arith, p1 v lv sv)))
+  at-second v lv sv =
+      rw (b1 .moved v lv sv, ne-eqb (d1 v % 3) 0 (omega (arith, p1 v lv sv)), eq-eqb (d1 v % 3) 1 (omega (arith, p1 v lv sv)))
 
   at-third : (v : ℕ) → v < n → sound v ≡ true → s3 v ≡ record { a = gained c (obeyed (s2 v .a) (s2 v .b) (h2 v k)); b = true }
   unfolding stepped threeSteps step2
@@ -148,13 +152,15 @@ module _ (n f c : ℕ) (sound : ℕ → Bool) (cards : Cards n f sound) (two : 2
           (x .0, y .0, y .1, x .2)
 
   -- what a sound card finds in step 1, a sound card holds
-  holder : (v i : ℕ) → v < n → sound v ≡ true → supported n f c (h1 v) ≡ Count i → (u : ℕ) × (u < n) × (sound u ≡ true) × (s1 u .a ≡ Count i)
+  holder : (v i : ℕ) → v < n → sound v ≡ true → supported n f c (h1 v) ≡ Count i
+      → (u : ℕ) × (u < n) × (sound u ≡ true) × (s1 u .a ≡ Count i)
   holder v i lv sv p =
       let u = supported-is n f sound cards c (h1 v) i p .2 in
       (u .0, u .1, u .2, cc (u .3, b1 .heard v (u .0) lv sv (u .1) (u .2)))
 
   -- so it is the same as any count that a sound card holds
-  found-same : (v w i j : ℕ) → v < n → sound v ≡ true → w < n → sound w ≡ true → supported n f c (h1 v) ≡ Count i → s1 w .a ≡ Count j → i ≡ j
+  found-same : (v w i j : ℕ) → v < n → sound v ≡ true → w < n → sound w ≡ true
+      → supported n f c (h1 v) ≡ Count i → s1 w .a ≡ Count j → i ≡ j
   found-same v w i j lv sv lw sw p q =
       let u = holder v i lv sv p in
       held-same (u .0) w i j (u .1) (u .2) lw sw (u .3) q

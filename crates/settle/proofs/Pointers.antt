@@ -38,13 +38,18 @@ pointer-is : (part p x : ℕ) (d : Vote) → d ≡ Count x → x / part ≡ p �
 unfolding pointer
 pointer-is part p x d e h = rw (e, h)
 
-pointer-or : (part p : ℕ) (d : Vote) → (d ≡ None) ⊎ ((y : ℕ) × (d ≡ Count y) × (y / part ≡ p)) → (pointer part d ≡ None) ⊎ (pointer part d ≡ Count p)
+pointer-or : (part p : ℕ) (d : Vote) → (d ≡ None) ⊎ ((y : ℕ) × (d ≡ Count y) × (y / part ≡ p))
+    → (pointer part d ≡ None) ⊎ (pointer part d ≡ Count p)
 unfolding pointer
-pointer-or part p d h = ⊎-elim (λ (e : d ≡ None). inl (rw e)) (λ (y : (y : ℕ) × (d ≡ Count y) × (y / part ≡ p)). inr (pointer-is part p (y .0) d (y .1) (y .2))) h
+pointer-or part p d h = ⊎-elim
+    (λ (e : d ≡ None). inl (rw e))
+    (λ (y : (y : ℕ) × (d ≡ Count y) × (y / part ≡ p)). inr (pointer-is part p (y .0) d (y .1) (y .2)))
+    h
 
 -- whichever half the card is in: both pointers end at p, and dp is x
 phase-led : (h f p x : ℕ) (d0 d1 : Vote)
-    → (orElse (pointer (span 0 f) d0) (pointer (span 1 f) d1) ≡ Count p) × (orElse (pointer (span 1 f) d1) (pointer (span 0 f) d0) ≡ Count p)
+    → (orElse (pointer (span 0 f) d0) (pointer (span 1 f) d1) ≡ Count p)
+    × (orElse (pointer (span 1 f) d1) (pointer (span 0 f) d0) ≡ Count p)
     → atHalf p d0 d1 ≡ Count x → phase h f d0 d1 ≡ x % turn f
 unfolding phase pointed countOr0
 phase-led h f p x d0 d1 both e =
@@ -134,5 +139,6 @@ module _ (n f c : ℕ) (sound : ℕ → Bool) (cards : Cards n f sound) (pos : 1
       → Stable (halfCards i n) (halfModulus i f) T (halfSound i n sound) (shownByHalf i n f (R .words))
       → SoundTurn n f sound (R .words) (T + 2 + restart f + 9 * turn f)
   sound-turn T good S =
-      let E = one-counter n f c sound cards pos small R (other i) (other-less i) (T + 2 + restart f) (9 * turn f) (omega arith) (omega arith) in
-      led (T + 2 + restart f) (seen n f c sound cards pos small R i l T good S) (E .0) (E .1) (E .2)
+      let b = T + 2 + restart f in
+      let E = one-counter n f c sound cards pos small R (other i) (other-less i) b (9 * turn f) (omega arith) (omega arith) in
+      led b (seen n f c sound cards pos small R i l T good S) (E .0) (E .1) (E .2)

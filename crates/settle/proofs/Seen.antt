@@ -9,7 +9,8 @@ use borrow.Author.Tests.{eqb-true, eq-eqb}
 use Rattle.rules.specs.declared.Vote.{Vote}
 use Rattle.rules.specs.declared.Vote.the-variants.{Count, None}
 use Rattle.rules.specs.Parameters.{c1, restart, noneWord}
-use Rattle.rules.specs.Groups.{halfCards, halfFirst, halfBroken, halfModulus, heardInHalf, readVote, outputOf, outputPlace, sentM, keptVote, keptWait}
+use Rattle.rules.specs.Groups.{halfCards, halfFirst, halfBroken, halfModulus, heardInHalf}
+use Rattle.rules.specs.Groups.{readVote, outputOf, outputPlace, sentM, keptVote, keptWait}
 use Rattle.rules.specs.OneBeat.{trusted, nextM, nextVote, keptD}
 use Rattle.rules.proofs.Tests.{decided}
 use Rattle.rules.proofs.Votes.{read-is, read-below}
@@ -85,7 +86,9 @@ module _ (n f c : ℕ) (sound : ℕ → Bool) (cards : Cards n f sound) (pos : 1
         rw (← e) (m-after n f c sound pos R i q v l lv sv
         ∙ most-frequent (halfCards i n) (halfBroken i f) (halfSound i n sound) good (halfModulus i f)
         (λ u. outputOf (halfBroken i f) (halfModulus i f) (heardInHalf i n (R .hear q v) u)) (S .x q) (S .below q k)
-        (λ u lu su. ap (readVote (halfModulus i f)) (R .heard q v (halfFirst i n + u) lv sv (half-inside i n u l lu) su (8 + outputPlace (halfBroken i f)))
+        (λ u lu su.
+        ap (readVote (halfModulus i f))
+        (R .heard q v (halfFirst i n + u) lv sv (half-inside i n u l lu) su (8 + outputPlace (halfBroken i f)))
         ∙ S .shown q u k lu su)) in
         rw m (read-below (halfModulus i f) (S .x q) (S .below q k))
 
@@ -109,6 +112,7 @@ module _ (n f c : ℕ) (sound : ℕ → Bool) (cards : Cards n f sound) (pos : 1
               trusted-yes _ _ (trusts n (halfModulus i f) (restart f) sound reads (T + 2) r v lv sv
               (λ q h. follows-next (halfModulus i f) (S .x (q - 2)) _ _ (S .below (q - 2) (omega arith))
               (seen-vote (q - 2) (q - 1) q v (omega arith) (omega arith) (omega arith) lv sv)
-              (rw (← S .counts (q - 2) (omega arith)) (seen-vote (q - 2 + 1) q (q + 1) v (omega arith) (omega arith) (omega arith) lv sv))) k)
+              (rw (← S .counts (q - 2) (omega arith))
+              (seen-vote (q - 2 + 1) q (q + 1) v (omega arith) (omega arith) (omega arith) lv sv))) k)
               ∙ seen-vote (r - 2) (r - 1) r v (omega arith) (omega arith) (omega arith) lv sv;
         }

@@ -48,7 +48,12 @@ module _ (n c : ℕ) (sound : ℕ → Bool) (cards : Cards n 0 sound) (two : 2 �
       → shown 0 c (R .words) r v ≡ Count (plusOne c (countOr0 (shown 0 c (R .words) q 0)))
   unfolding leafNext
   leaf-shown q r v e lv sv =
-      rw (← e, R .steps q v lv sv 0 (omega arith), leaf-word (R .fuel) (R .hear q v) v (R .deep), R .heard q v 0 lv sv (omega arith) first-sound 0)
+      rw (
+        ← e,
+        R .steps q v lv sv 0 (omega arith),
+        leaf-word (R .fuel) (R .hear q v) v (R .deep),
+        R .heard q v 0 lv sv (omega arith) first-sound 0,
+      )
       (read-below c _ (mod-lt _ (omega arith)))
 
   leaf-stable : Stable n c 1 sound (shown 0 c (R .words))
@@ -63,15 +68,19 @@ module _ (n c : ℕ) (sound : ℕ → Bool) (cards : Cards n 0 sound) (two : 2 �
         shown = λ r v l lv sv. leaf-shown (r - 1) r v (omega arith) lv sv;
       }
 
-module _ (n f c : ℕ) (sound : ℕ → Bool) (cards : Cards n f sound) (pos : 1 ≤ f) (two : 2 ≤ c) (fits : c ≤ noneWord) (R : Run n f c sound) where
+module _ (n f c : ℕ) (sound : ℕ → Bool) (cards : Cards n f sound)
+    (pos : 1 ≤ f) (two : 2 ≤ c) (fits : c ≤ noneWord) (R : Run n f c sound) where
   -- k beats after all sound cards agree they still do
-  agreed-on : (r x k : ℕ) → Agreed n c sound x (standing f c (R .words r)) → Agreed n c sound (advance c x k) (standing f c (R .words (r + k)))
+  agreed-on : (r x k : ℕ) → Agreed n c sound x (standing f c (R .words r))
+      → Agreed n c sound (advance c x k) (standing f c (R .words (r + k)))
   unfolding advance
   agreed-on r x zero h = rw (add-zero r) h
   agreed-on r x (suc k) h =
       let e : r + suc k ≡ r + k + 1 = omega arith in
-      rw e (persist n f c sound cards (phaseAt n f (R .words) (r + k)) (standing f c (R .words (r + k))) (λ v u. outputOf f c (R .hear (r + k) v u))
-      (standing f c (R .words (r + k + 1))) (advance c x k) (beat n f c sound pos R (r + k) (omega arith) fits) (agreed-on r x k h))
+      let q = r + k in
+      rw e
+      (persist n f c sound cards (phaseAt n f (R .words) q) (standing f c (R .words q)) (λ v u. outputOf f c (R .hear q v u))
+      (standing f c (R .words (q + 1))) (advance c x k) (beat n f c sound pos R q (omega arith) fits) (agreed-on r x k h))
 
   -- so they have settled
   agreed-stable : (T x : ℕ) → Agreed n c sound x (standing f c (R .words T)) → Stable n c T sound (shown f c (R .words))
@@ -120,10 +129,10 @@ stable (suc k) n (suc g) c sound deep cards small two fits R =
     let few = half-broken (h .0) (suc g) (h .1) in
     let m = half-modulus (h .0) (suc g) (h .1) in
     half-settles n (suc g) c sound cards (omega arith) two fits R (h .0) (h .1) small (h .2)
-    (stable k (halfCards (h .0) n) (halfBroken (h .0) (suc g)) (halfModulus (h .0) (suc g)) (halfSound (h .0) n sound) (omega arith) (h .2) (omega arith)
-    (m .0) (omega arith) (halfRun n (suc g) c sound (omega arith) R (h .0) (h .1)))
+    (stable k (halfCards (h .0) n) (halfBroken (h .0) (suc g)) (halfModulus (h .0) (suc g)) (halfSound (h .0) n sound)
+    (omega arith) (h .2) (omega arith) (m .0) (omega arith) (halfRun n (suc g) c sound (omega arith) R (h .0) (h .1)))
 
--- Demand 3 over single steps
+-- what is promised (RULES 13), over single steps
 pub settles : Settles
 unfolding shownCount
 settles n f c sound cards small two fits R =

@@ -92,10 +92,11 @@ module _ (n m again : ℕ) (sound : ℕ → Bool) (R : Reads n m again sound) wh
   history b v (suc i) k l lv sv h small =
       let a = back (b + i) (b + suc i) v k (omega arith) lv sv h (omega arith) in
       let ih = history b v i (k + 1) l lv sv (a .3) (omega arith) in
-      let s : a .0 ≡ advance m (ih .0) i = cc (a .1, ih .2) in (
+      let s : a .0 ≡ advance m (ih .0) i = cc (a .1, ih .2) in
+      let below = R .below b v (ih .0) lv sv (ih .1) in (
         ih .0,
         ih .1,
-        a .2 ∙ ap Count (ap (plusOne m) s ∙ plus-one m (advance m (ih .0) i) (advance-less m (ih .0) i (R .below b v (ih .0) lv sv (ih .1)))),
+        a .2 ∙ ap Count (ap (plusOne m) s ∙ plus-one m (advance m (ih .0) i) (advance-less m (ih .0) i below)),
       )
 
   -- does some sound card trust its vote at the beat r?
@@ -109,14 +110,17 @@ module _ (n m again : ℕ) (sound : ℕ → Bool) (R : Reads n m again sound) wh
   base b len l small pos = ⊎-elim none some (le-or-lt (countBelow len (λ i. some-one (b + i))) 0)
     where
       Goal : Type 0
-      Goal = (e : ℕ) × (e < m) × ((i v : ℕ) → i < len → v < n → sound v ≡ true → R .w (b + i) v ≡ 0 → R .M (b + i) v ≡ Count (advance m e i))
+      Goal =
+          (e : ℕ) × (e < m)
+          × ((i v : ℕ) → i < len → v < n → sound v ≡ true → R .w (b + i) v ≡ 0 → R .M (b + i) v ≡ Count (advance m e i))
 
       none : countBelow len (λ i. some-one (b + i)) ≤ 0 → Goal
       none h = (
         0,
         pos,
         λ i v li lv sv z.
-            let a = count-pos n (λ v. sound v && eqb (R .w (b + i) v) 0) v lv (and-both (sound v) (eqb (R .w (b + i) v) 0) sv (eq-eqb _ 0 z)) in
+            let trusts = and-both (sound v) (eqb (R .w (b + i) v) 0) sv (eq-eqb _ 0 z) in
+            let a = count-pos n (λ v. sound v && eqb (R .w (b + i) v) 0) v lv trusts in
             absurd (omega (arith, count-pos len (λ i. some-one (b + i)) i li (lt-ltb 0 _ a))),
       )
 

@@ -46,7 +46,8 @@ module _ (n f : ℕ) (sound : ℕ → Bool) (cards : Cards n f sound) (some : 1 
       let h = rw p at (count-split (q + 1) (f + 1 - q) sound) in
       ⊎-elim
       (λ (z : countBelow q sound ≤ 0).
-      let u = count-some (f + 1 - q) (λ u. sound (q + 1 + u)) (omega (arith, two-sound, count-split q 1 sound, count-le 1 (λ u. sound (q + u)))) in
+      let u = count-some (f + 1 - q) (λ u. sound (q + 1 + u))
+      (omega (arith, two-sound, count-split q 1 sound, count-le 1 (λ u. sound (q + u)))) in
       (0, q + 1 + u .0, s + (3 * (q + 1 + u .0) - e), omega arith, u .2, omega arith, omega arith, omega arith))
       (λ (z : 0 < countBelow q sound).
       let u = count-some q sound z in
@@ -55,7 +56,8 @@ module _ (n f : ℕ) (sound : ℕ → Bool) (cards : Cards n f sound) (some : 1 
 
 -- some sound king's whole turn lies in t beats of a phase that counts modulo t
 pub whole-turn : (n f : ℕ) (sound : ℕ → Bool) → Cards n f sound → 1 ≤ f → (d : ℕ → ℕ) (s : ℕ) → Counts (turn f) d s (turn f)
-    → (k r : ℕ) × (k < n) × (sound k ≡ true) × (s ≤ r) × (r + 3 ≤ s + turn f) × (d r ≡ 3 * k) × (d (r + 1) ≡ 3 * k + 1) × (d (r + 2) ≡ 3 * k + 2)
+    → (k r : ℕ) × (k < n) × (sound k ≡ true) × (s ≤ r) × (r + 3 ≤ s + turn f)
+    × (d r ≡ 3 * k) × (d (r + 1) ≡ 3 * k + 1) × (d (r + 2) ≡ 3 * k + 2)
 whole-turn n f sound cards some d s counts =
     let (j, k, r, lk, sk, l, h, e) = uncut n f sound cards some s (d s) (counts .below s (omega arith) (omega arith)) in
     let at : (q x : ℕ) → s ≤ q → q < s + turn f → d s + q ≡ x + s + j * turn f → x < turn f → d q ≡ x

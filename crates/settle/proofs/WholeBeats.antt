@@ -63,9 +63,10 @@ pub each-accepted : (n f c set : ℕ) (start : List ℕ) (sent : ℕ → List �
     → ((r : ℕ) → beatRefusal n f c set (length start) (length (sent r)) (length start) ≡ 0)
     → (r : ℕ) → beatRefusal n f c set (length (tableAt n f c set start sent r)) (length (sent r)) (length start) ≡ 0
 each-accepted n f c set start sent ok r =
-    rw (table-length n f c set start sent (beat-accepted n f c set (length start) (length (sent 0)) (length start) (ok 0) .held-whole) r) (ok r)
+    let good = beat-accepted n f c set (length start) (length (sent 0)) (length start) (ok 0) in
+    rw (table-length n f c set start sent (good .held-whole) r) (ok r)
 
--- Demand 3 over whole beats
+-- what is promised (RULES 13), over whole beats
 pub settles-on-beats : SettlesOnBeats
 unfolding brokenBelow beats
 settles-on-beats n f c set start sent ok =

@@ -9,14 +9,14 @@ use Rattle.rules.specs.Parameters.{recordWords}
 use Rattle.rules.specs.OneBeat.{groupNext}
 use Rattle.rules.specs.WholeBeat.{tableAfter}
 
--- "With at most f broken cards": of n cards, n > 3f, at most f are not sound
+-- RULES 13: "Let at most f cards be broken", of n cards, n > 3f: at most f are not sound
 pub record Cards (n f : ℕ) (sound : ℕ → Bool) : Type 0 where
   pub few : 3 * f < n
   pub broken : countBelow n (λ u. not (sound u)) ≤ f
 
--- `words r v j` is the word j of the card v after r beats, `hear r v u j` what v hears of u on the beat that follows. Of a
--- card that is not sound nothing is said: it holds what it likes, and tells each listener what it likes. The fuel only has
--- to be enough for the definition of a group's next words
+-- `words r v j` is the word j of the card v after r beats, `hear r v u j` what v hears of u on the beat that follows. Nothing is
+-- said of a card that is not sound: it may hold anything, and send anything to each card. The fuel only has to be enough for the
+-- definition of a group's next words
 pub record Run (n f c : ℕ) (sound : ℕ → Bool) : Type 0 where
   pub words : ℕ → ℕ → ℕ → ℕ
   pub hear : ℕ → ℕ → ℕ → ℕ → ℕ

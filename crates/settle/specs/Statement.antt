@@ -1,4 +1,4 @@
--- What is proved of the counter: demand 3, over single steps and over whole beats.
+-- What is proved of the counter: what RULES 13 promises, over single steps and over whole beats.
 use mathlib.Core.Path.{_≡_}
 use mathlib.Core.Bool.{Bool, true, false}
 use mathlib.Core.List.{List}
@@ -14,8 +14,8 @@ use Rattle.rules.specs.Refusals.{beatRefusal}
 use Rattle.rules.specs.Lag.{lagOf}
 use Rattle.settle.specs.Run.{Cards, Run, tableAt}
 
--- From all starting words, whatever the broken cards tell each listener, there is an x below c such that after T(f) + k
--- beats every sound card shows (x + k) modulo c. The word for none must be no count of a half: c1 ≤ 65,535
+-- From all starting words, whatever the broken cards send to each card, there is an x below c such that after T(f) + k beats
+-- every sound card shows (x + k) modulo c. The word for none must be no count of a half: c1 ≤ 65,535
 abbrev pub Settles : Type 0
 Settles =
     (n f c : ℕ) (sound : ℕ → Bool) → Cards n f sound → c1 f ≤ noneWord → 2 ≤ c → c ≤ mostModulus

@@ -1,1 +1,1 @@
-// Demand 3: theorems over the rules alone. The statements are in specs/, their proofs in proofs/.
+// What is promised (RULES 13): theorems over the rules alone. The statements are in specs/, their proofs in proofs/.

@@ -8,7 +8,7 @@ use Rattle.steps.specs.declared.Standing.{Standing as Kept}
 abbrev pub standing : Kept → Standing
 standing s = record { a = s .a; b = s .b }
 
--- what `step_1` asks of a column of outputs, with numbers that no sum makes too large
+-- what `step_1` asks: a column of outputs, and an f and a c that are small enough to compute with
 pub record StepAsks (size : ℕ) (col : Column) (f c : ℕ) : Type 0 where
   pub within : Within size col
   pub few : f < 256

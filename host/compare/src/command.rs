@@ -14,20 +14,38 @@ use crate::report::{differences, figures};
 const CASES: usize = 440;
 const SEED: u64 = 1;
 
-const USAGE: &str = "\
-usage: compare [CASES [SEED]]   the definitions against the second implementation
-CASES is 440 and SEED is 1 where it is missing. A difference is an error.
-";
+/// How many cases are drawn, and from where, or one line that says what is wrong with the arguments.
+pub fn request(arguments: &[&str]) -> Result<(usize, u64), String> {
+    let read = numbers(arguments);
+    read.map_err(|message| format!("compare: {message}; try ./tsendurkho compare --help\n"))
+}
+
+fn numbers(arguments: &[&str]) -> Result<(usize, u64), String> {
+    if let Some(option) = arguments.iter().find(|word| word.starts_with('-')) {
+        return Err(format!("there is no option '{option}'"));
+    }
+    match *arguments {
+        [] => Ok((CASES, SEED)),
+        [cases] => Ok((count(cases)?, SEED)),
+        [cases, seed] => Ok((count(cases)?, number(seed)?)),
+        [_, _, extra, ..] => Err(format!("one argument too many: '{extra}'")),
+    }
+}
+
+fn count(text: &str) -> Result<usize, String> {
+    match text.parse() {
+        Ok(cases) if cases > 0 => Ok(cases),
+        _ => Err(format!("CASES has to be a number from 1 on, not '{text}'")),
+    }
+}
+
+fn number(text: &str) -> Result<u64, String> {
+    let parsed = text.parse();
+    parsed.map_err(|_| format!("SEED has to be a number, not '{text}'"))
+}
 
 /// What goes to standard output, or to standard error where something is wrong.
-pub fn answer(arguments: &[&str]) -> Result<String, String> {
-    let known = match *arguments {
-        [] => Some((CASES, SEED)),
-        [cases] => cases.parse().ok().map(|cases| (cases, SEED)),
-        [cases, seed] => cases.parse().ok().zip(seed.parse().ok()),
-        _ => None,
-    };
-    let (cases, seed) = known.filter(|&(cases, _)| cases > 0).ok_or(USAGE)?;
+pub fn answer(cases: usize, seed: u64) -> Result<String, String> {
     let compared = compare(&draw(cases, seed));
     compared.unwrap_or_else(|error| Err(format!("compare: {error}\n")))
 }

@@ -4,7 +4,7 @@ use std::collections::BTreeSet;
 
 use compare::case::Case;
 use compare::claims::{claim_names, crate_files};
-use compare::command::{answer, root};
+use compare::command::root;
 use compare::definitions::Definitions;
 use compare::kinds::{draw, KINDS};
 use compare::prover::{refused_claims, Refused};
@@ -125,17 +125,4 @@ fn wrong_values_that_are_not_refused_are_an_error() {
     refused.insert("case0-lag".to_string(), String::new());
     let told = figures(&cases, &wrong, &refused).unwrap();
     assert!(told.starts_with("compare: 2 cases, 2 equations, all as the definitions compute\n"));
-}
-
-#[test]
-fn other_arguments_are_told_the_usage() {
-    for arguments in [
-        &["many"][..],
-        &["0"],
-        &["-3"],
-        &["5", "x"],
-        &["5", "6", "7"],
-    ] {
-        assert!(answer(arguments).unwrap_err().starts_with("usage: compare"));
-    }
 }

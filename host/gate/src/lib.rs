@@ -1,4 +1,6 @@
-//! A copy of what the gate's own scripts read, in which a test puts something wrong.
+//! A copy of what the gate's own scripts read, in which a test puts something wrong, and the pages that people read.
+
+pub mod pages;
 
 use std::env;
 use std::fs;

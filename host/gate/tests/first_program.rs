@@ -8,15 +8,11 @@ use std::os::unix::fs::symlink;
 use std::path::{Path, PathBuf};
 use std::process::{Command, Output};
 
+use gate::pages::{fenced, page};
 use program::{launcher, root};
 
-/// What the page has in its fences of this language, one after the other.
 fn on_the_page(language: &str) -> Vec<String> {
-    let page = fs::read_to_string(root().join("docs/HOST.md")).expect("the page can be read");
-    let fenced = page.split("\n```").skip(1).step_by(2);
-    let start = format!("{language}\n");
-    let texts = fenced.filter_map(|fenced| fenced.strip_prefix(&start));
-    texts.map(|text| format!("{text}\n")).collect()
+    fenced(&page("docs/HOST.md"), language)
 }
 
 /// The page's folder `rack`, beside a folder that has the crate where a checkout has it.

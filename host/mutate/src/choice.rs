@@ -23,6 +23,15 @@ impl Choice {
         }
     }
 
+    /// What `--only` was given, if it was.
+    pub fn which(&self) -> Option<String> {
+        match self {
+            Choice::Numbered(number) => Some(number.to_string()),
+            Choice::Named(text) => Some(text.clone()),
+            Choice::Spread | Choice::All => None,
+        }
+    }
+
     pub fn of<'a>(&self, mutants: &'a [Mutant]) -> Vec<(usize, &'a Mutant)> {
         let mut seen = HashMap::new();
         let mut in_turn = |mutant: &Mutant| {

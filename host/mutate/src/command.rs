@@ -2,17 +2,6 @@
 
 use crate::choice::Choice;
 
-pub const USAGE: &str = "\
-usage: mutate [--list] [--all | --only WHICH] [--jobs N] [CRATE]...
-Edits copies of the crates' code mechanically, and asks the prover about each edit: all libraries of crates.txt that have
-functions, where no CRATE is named.
-  --list        print the mutants, each with its number, and run none
-  --all         all mutants, and not every so many of a kind
-  --only WHICH  the mutant of that number, or those with that text in their name, and what the prover printed
-  --jobs N      so many at a time, the number of processors where it is missing
-Every survivor must be listed in docs/MUTATION.md with the reason why it does the same; else this ends with an error.
-";
-
 #[derive(Clone, Debug, PartialEq, Eq)]
 pub struct Request {
     pub crates: Vec<String>,
@@ -21,8 +10,8 @@ pub struct Request {
     pub jobs: Option<usize>,
 }
 
-/// Nothing where the arguments are wrong.
-pub fn request(arguments: &[String]) -> Option<Request> {
+/// The request, or what is wrong with the arguments.
+pub fn request(arguments: &[String]) -> Result<Request, String> {
     let mut request = Request {
         crates: Vec::new(),
         choice: Choice::Spread,
@@ -31,16 +20,27 @@ pub fn request(arguments: &[String]) -> Option<Request> {
     };
     let mut words = arguments.iter();
     while let Some(word) = words.next() {
+        let mut value = || words.next().ok_or(format!("{word} lacks its value"));
         match word.as_str() {
             "--list" => request.list = true,
-            "--all" if request.choice == Choice::Spread => request.choice = Choice::All,
-            "--only" if request.choice == Choice::Spread => {
-                request.choice = Choice::only(words.next()?);
+            "--all" | "--only" if request.choice != Choice::Spread => {
+                return Err("there is one --all or --only at most".to_string());
             }
-            "--jobs" => request.jobs = Some(words.next()?.parse().ok().filter(|jobs| *jobs > 0)?),
-            name if !name.starts_with('-') => request.crates.push(name.to_string()),
-            _ => return None,
+            "--all" => request.choice = Choice::All,
+            "--only" => request.choice = Choice::only(value()?),
+            "--jobs" => request.jobs = Some(jobs(value()?)?),
+            option if option.starts_with('-') => {
+                return Err(format!("there is no option '{option}'"));
+            }
+            name => request.crates.push(name.to_string()),
         }
     }
-    Some(request)
+    Ok(request)
+}
+
+fn jobs(text: &str) -> Result<usize, String> {
+    match text.parse() {
+        Ok(jobs) if jobs > 0 => Ok(jobs),
+        _ => Err(format!("N has to be a number from 1 on, not '{text}'")),
+    }
 }

@@ -6,8 +6,7 @@ use std::io;
 use std::process::ExitCode;
 use std::thread;
 
-use mutate::choice::Choice;
-use mutate::command::{request, Request, USAGE};
+use mutate::command::{request, Request};
 use mutate::copies::Workplace;
 use mutate::ending::Ending;
 use mutate::equivalents::{self, Equivalent};
@@ -16,31 +15,44 @@ use mutate::report::{line, summary, unmatched};
 use mutate::repository::{libraries, root};
 use mutate::run::{Outcome, Run};
 
+/// Why there is no answer.
+enum Failure {
+    WrongUse(String),
+    Failed(String),
+}
+
 fn main() -> ExitCode {
     let arguments: Vec<String> = env::args().skip(1).collect();
-    let request = request(&arguments).ok_or_else(|| USAGE.to_string());
+    let request = request(&arguments).map_err(Failure::WrongUse);
     match request.and_then(|request| answer(&request)) {
         Ok(true) => ExitCode::SUCCESS,
         Ok(false) => ExitCode::FAILURE,
-        Err(message) => {
-            eprintln!("{message}");
+        Err(Failure::WrongUse(message)) => {
+            eprintln!("mutate: {message}; try ./tsendurkho mutate --help");
+            ExitCode::from(2)
+        }
+        Err(Failure::Failed(message)) => {
+            eprintln!("mutate: {message}");
             ExitCode::FAILURE
         }
     }
 }
 
-fn said(error: io::Error) -> String {
-    error.to_string()
+fn failed(error: io::Error) -> Failure {
+    Failure::Failed(error.to_string())
 }
 
 /// Is every survivor listed, and is there every mutant that is listed?
-fn answer(request: &Request) -> Result<bool, String> {
+fn answer(request: &Request) -> Result<bool, Failure> {
     let crates = asked(&request.crates)?;
     let mut mutants_of_all = Vec::new();
     for library in &crates {
-        mutants_of_all.extend(mutants(&root(), library).map_err(said)?);
+        mutants_of_all.extend(mutants(&root(), library).map_err(failed)?);
     }
     let chosen = request.choice.of(&mutants_of_all);
+    if let (true, Some(which)) = (chosen.is_empty(), request.choice.which()) {
+        return Err(Failure::WrongUse(format!("no edit is --only '{which}'")));
+    }
     if request.list {
         chosen
             .iter()
@@ -49,7 +61,7 @@ fn answer(request: &Request) -> Result<bool, String> {
     }
     let equivalents = listed()?;
     let chosen: Vec<&Mutant> = chosen.into_iter().map(|(_, mutant)| mutant).collect();
-    let outcomes = tried(request, &crates, &chosen, &equivalents).map_err(said)?;
+    let outcomes = tried(request, &crates, &chosen, &equivalents).map_err(failed)?;
     let unmatched = unmatched(&equivalents, &request.crates, &mutants_of_all);
     print!("{}", summary(&outcomes, &unmatched));
     let survived = outcomes
@@ -59,19 +71,20 @@ fn answer(request: &Request) -> Result<bool, String> {
 }
 
 /// The libraries named, or all of them.
-fn asked(names: &[String]) -> Result<Vec<String>, String> {
-    let libraries = libraries(&root()).map_err(said)?;
+fn asked(names: &[String]) -> Result<Vec<String>, Failure> {
+    let libraries = libraries(&root()).map_err(failed)?;
     if let Some(unknown) = names.iter().find(|name| !libraries.contains(name)) {
-        return Err(format!("{unknown} is no library that crates.txt lists"));
+        let message = format!("'{unknown}' is no library that crates.txt lists");
+        return Err(Failure::WrongUse(message));
     }
     let wanted = |library: &String| names.is_empty() || names.contains(library);
     Ok(libraries.into_iter().filter(wanted).collect())
 }
 
-fn listed() -> Result<Vec<Equivalent>, String> {
-    let told = |message: String| format!("docs/MUTATION.md: {message}");
+fn listed() -> Result<Vec<Equivalent>, Failure> {
+    let wrong = |message: String| Failure::Failed(format!("docs/MUTATION.md: {message}"));
     let document = fs::read_to_string(root().join("docs/MUTATION.md"));
-    equivalents::parse(&document.map_err(|error| told(error.to_string()))?).map_err(told)
+    equivalents::parse(&document.map_err(|error| wrong(error.to_string()))?).map_err(wrong)
 }
 
 /// The crates one after the other: each is proved, and then its mutants are tried.
@@ -88,7 +101,7 @@ fn tried<'m>(
             .map_or_else(|| thread::available_parallelism().map(usize::from), Ok)?,
         equivalents,
     };
-    let aloud = matches!(request.choice, Choice::Numbered(_) | Choice::Named(_));
+    let aloud = request.choice.which().is_some();
     let tell = |outcome: &Outcome| {
         if aloud {
             print!("{}", outcome.printed);

@@ -6,7 +6,7 @@ use common::mutants_in;
 use mutate::choice::Choice;
 use mutate::command::{request, Request};
 
-fn asked(words: &[&str]) -> Option<Request> {
+fn asked(words: &[&str]) -> Result<Request, String> {
     let words: Vec<String> = words.iter().map(|word| word.to_string()).collect();
     request(&words)
 }
@@ -48,16 +48,23 @@ fn options_and_crates_may_be_mixed() {
 }
 
 #[test]
-fn wrong_arguments_are_refused() {
-    for wrong in [
-        &["--jobs"][..],
-        &["--jobs", "0"],
-        &["--jobs", "x"],
-        &["--only"],
-        &["--every"],
-        &["--all", "--only", "1"],
+fn wrong_arguments_are_named() {
+    for (wrong, said) in [
+        (&["--jobs"][..], "--jobs lacks its value"),
+        (&["--jobs", "0"], "N has to be a number from 1 on, not '0'"),
+        (&["--jobs", "x"], "N has to be a number from 1 on, not 'x'"),
+        (&["--only"], "--only lacks its value"),
+        (&["--every"], "there is no option '--every'"),
+        (
+            &["--all", "--only", "1"],
+            "there is one --all or --only at most",
+        ),
+        (
+            &["--only", "1", "--only", "2"],
+            "there is one --all or --only at most",
+        ),
     ] {
-        assert_eq!(asked(wrong), None, "{wrong:?}");
+        assert_eq!(asked(wrong), Err(said.to_string()));
     }
 }
 
@@ -88,6 +95,10 @@ fn one_is_chosen_by_its_number_or_by_its_name() {
     let second = ["2 sample/src/lib.rt:2 sample return: { -> { return true;"];
     assert_eq!(names(Choice::only("2")), second);
     assert_eq!(names(Choice::only("return true")), second);
+    for which in ["2", "return true"] {
+        assert_eq!(Choice::only(which).which().as_deref(), Some(which));
+    }
+    assert_eq!((Choice::All.which(), Choice::Spread.which()), (None, None));
 }
 
 #[test]

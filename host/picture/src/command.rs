@@ -1,8 +1,9 @@
 //! What the program does with its arguments.
 
 use std::fs;
+use std::path::Path;
 
-use simulate::command::USAGE;
+use simulate::command::{request, Request};
 use simulate::cooldown::RIGHT;
 use simulate::report::line;
 use simulate::survey::Outcome;
@@ -22,15 +23,24 @@ pub enum Failure {
 
 /// Draws a run into a file, and says how it went in one line.
 pub fn answer(arguments: &[&str]) -> Result<String, Failure> {
-    let wanted = match *arguments {
-        ["--svg", file] => Some((file, DRAWN)),
-        ["--svg", file, "--seed", seed] => seed.parse().ok().map(|seed| (file, seed)),
-        _ => None,
+    let (file, seed) = match request(arguments).map_err(Failure::WrongUse)? {
+        Request::Picture { file, seed } => (file, seed.unwrap_or(DRAWN)),
+        _ => return Err(wrong("--svg FILE is missing")),
     };
-    let (file, seed) = wanted.ok_or_else(|| Failure::WrongUse(USAGE.to_string()))?;
+    if Path::new(file).is_dir() {
+        return Err(wrong(&format!(
+            "'{file}' is a directory, and a file is wanted"
+        )));
+    }
     let failed =
-        |error| Failure::NotWritten(format!("simulate: {file} cannot be written: {error}\n"));
+        |error| Failure::NotWritten(format!("simulate: '{file}' cannot be written: {error}\n"));
     fs::write(file, picture(seed)).map_err(failed)?;
     let run = Outcome::counted_by(ARCHIVE, seed, RIGHT, 1);
     Ok(format!("{}\n", line(&run)))
+}
+
+fn wrong(message: &str) -> Failure {
+    Failure::WrongUse(format!(
+        "simulate: {message}; try ./tsendurkho simulate --help\n"
+    ))
 }

@@ -22,26 +22,32 @@ fn the_picture_is_written_and_its_run_described() {
 
 #[test]
 fn a_picture_that_cannot_be_written_is_a_failure() {
-    // A folder is no file.
-    let folder = env!("CARGO_TARGET_TMPDIR");
-    let wanted = format!("simulate: {folder} cannot be written: ");
-    match answer(&["--svg", folder]) {
+    // A file is no folder.
+    let file = Path::new(env!("CARGO_TARGET_TMPDIR")).join("no-folder");
+    fs::write(&file, "").unwrap();
+    let inside = file.join("run.svg");
+    let wanted = format!("simulate: '{}' cannot be written: ", inside.display());
+    match answer(&["--svg", inside.to_str().unwrap()]) {
         Err(Failure::NotWritten(text)) => assert!(text.starts_with(&wanted), "{text}"),
         other => panic!("{other:?}"),
     }
 }
 
 #[test]
-fn other_arguments_get_the_usage() {
-    for wrong in [
-        &[][..],
-        &["--svg"],
-        &["--svg", "/dev/null", "--seed"],
-        &["--svg", "/dev/null", "--seed", "many"],
+fn wrong_arguments_are_named() {
+    let folder = env!("CARGO_TARGET_TMPDIR");
+    let directory = format!("'{folder}' is a directory, and a file is wanted");
+    for (wrong, said) in [
+        (&[][..], "--svg FILE is missing"),
+        (&["--svg"], "--svg lacks its value"),
+        (&["--svg", folder], &directory),
+        (&["--svg", "/dev/null", "--seed"], "--seed lacks its value"),
+        (
+            &["--svg", "/dev/null", "--seed", "many"],
+            "SEED has to be a number, not 'many'",
+        ),
     ] {
-        match answer(wrong) {
-            Err(Failure::WrongUse(text)) => assert!(text.starts_with("usage:"), "{wrong:?}"),
-            other => panic!("{other:?}"),
-        }
+        let text = format!("simulate: {said}; try ./tsendurkho simulate --help\n");
+        assert_eq!(answer(wrong), Err(Failure::WrongUse(text)));
     }
 }

@@ -1,17 +1,16 @@
 //! What the program does where its input or output fails, as docs/FAULTS.md says: what is printed is right as far as it
-//! goes, the rest is told on standard error, and the launcher's exit status is not 0.
+//! goes, the rest is reported on standard error, and the launcher's exit status is not 0.
 
 use std::fs::{self, File, OpenOptions};
 use std::io::Write;
 use std::os::unix::io::OwnedFd;
 use std::os::unix::net::{UnixDatagram, UnixStream};
-use std::path::PathBuf;
 use std::process::{Child, Command, ExitStatus, Output, Stdio};
 use std::thread;
 
 use generate::runfiles::RunFile;
 use generate::{Random, Shape};
-use program::{launcher, root, send, wanted};
+use program::{launcher, parts, refusal_in, root, scratch, send, wanted};
 
 const UNREAD: &str = "blockrun: the input could not be read\n";
 const UNWRITTEN: &str = "blockrun: the output could not be written\n";
@@ -49,19 +48,18 @@ fn finished(command: &mut Command, text: &[u8]) -> Output {
     })
 }
 
-fn text_of(bytes: &[u8]) -> String {
-    String::from_utf8_lossy(bytes).into_owned()
+/// The output, what is reported on standard error, and the exit status.
+fn assert_ends(ended: Output, output: &[u8], reported: &str, status: i32) {
+    let output = String::from_utf8_lossy(output).into_owned();
+    assert_eq!(parts(&ended), (output, reported.to_string(), Some(status)));
 }
 
-/// The output, what is told on standard error, and the exit status.
-fn assert_ends(ended: Output, output: &[u8], told: &str, status: i32) {
-    let Output {
-        stdout,
-        stderr,
-        status: code,
-    } = ended;
-    let found = (text_of(&stdout), text_of(&stderr), code.code());
-    assert_eq!(found, (text_of(output), told.to_string(), Some(status)));
+/// What is reported of an input that ends too soon, by its right output: nothing where all of its lines are whole.
+fn cut_short(output: &[u8]) -> String {
+    refusal_in(output).map_or_else(String::new, |(line, refusal)| {
+        let missing = if line < 3 { "it is missing, or it has" } else { "it has" };
+        format!("tsendurkho: line {line} refused ({refusal}): {missing} a wrong length or a character that is none of 0-9, a-f\n")
+    })
 }
 
 /// A small file with a broken card, and its beats.
@@ -85,19 +83,19 @@ fn large_file() -> Vec<u8> {
     file_of(300)
 }
 
-/// A folder of a test's own, for what it writes.
-fn scratch(name: &str) -> PathBuf {
-    let folder = PathBuf::from(env!("CARGO_TARGET_TMPDIR")).join(name);
-    fs::create_dir_all(&folder).expect("a folder for the test");
-    folder
-}
-
 #[test]
 fn an_input_that_ends_anywhere() {
     let text = small_file();
     for end in 0..=text.len() {
-        let part = &text[..end];
-        assert_ends(finished(&mut run(), part), &wanted(part), "", 0);
+        let output = wanted(&text[..end]);
+        let reported = cut_short(&output);
+        let status = if reported.is_empty() { 0 } else { 3 };
+        assert_ends(
+            finished(&mut run(), &text[..end]),
+            &output,
+            &reported,
+            status,
+        );
     }
 }
 
@@ -147,20 +145,27 @@ fn a_read_that_fails_anywhere() {
             .stdin(OwnedFd::from(theirs))
             .output()
             .expect("the launcher runs");
-        assert_ends(ended, &wanted(&text[..end]), UNREAD, 1);
+        let output = wanted(&text[..end]);
+        assert_ends(
+            ended,
+            &output,
+            &(UNREAD.to_string() + &cut_short(&output)),
+            1,
+        );
     }
 }
 
 #[test]
 fn an_input_that_cannot_be_read() {
     let nothing = wanted(b"");
+    let unread = UNREAD.to_string() + &cut_short(&nothing);
     let folder = File::open(root()).expect("a folder can be opened");
     let ended = run().stdin(folder).output().expect("the launcher runs");
-    assert_ends(ended, &nothing, UNREAD, 1);
+    assert_ends(ended, &nothing, &unread, 1);
     let closed = shell("exec \"$0\" run <&-")
         .output()
         .expect("the launcher runs");
-    assert_ends(closed, &nothing, UNREAD, 1);
+    assert_ends(closed, &nothing, &unread, 1);
 }
 
 /// Sends a signal to a whole group of processes.
@@ -265,6 +270,14 @@ fn a_disk_that_fills_up() {
     }
 }
 
+/// A refusal that could not be written to the output is still reported, and the failed write decides the status.
+#[test]
+fn a_refusal_and_a_full_disk() {
+    let refused = finished(&mut shell("exec \"$0\" run >/dev/full"), b"");
+    let reported = cut_short(&wanted(b"")) + UNWRITTEN;
+    assert_ends(refused, b"", &reported, 1);
+}
+
 #[test]
 fn an_output_that_cannot_be_written() {
     let closed = finished(&mut shell("exec \"$0\" run >&-"), &small_file());
@@ -273,21 +286,21 @@ fn an_output_that_cannot_be_written() {
     assert_ends(for_reading, b"", UNWRITTEN, 1);
 }
 
-/// How the launcher ends, and what is told, where nobody reads the output.
+/// How the launcher ends, and what is reported, where nobody reads the output.
 fn unread(mut command: Command) -> (ExitStatus, String) {
     let mut child = started(&mut command);
     drop(child.stdout.take());
     let mut input = child.stdin.take().expect("its input is a pipe");
     assert!(!send(&mut input, &large_file()));
     let ended = child.wait_with_output().expect("the launcher ends");
-    (ended.status, text_of(&ended.stderr))
+    (ended.status, parts(&ended).1)
 }
 
 /// The system ends the program by signal 13, as it ends others; where that signal is ignored, the write fails.
 #[test]
 fn a_reader_that_goes_away() {
-    let (status, told) = unread(run());
-    assert_eq!((status.code(), told.as_str()), (Some(128 + 13), ""));
-    let (status, told) = unread(shell("trap '' PIPE; exec \"$0\" run"));
-    assert_eq!((status.code(), told.as_str()), (Some(1), UNWRITTEN));
+    let (status, reported) = unread(run());
+    assert_eq!((status.code(), reported.as_str()), (Some(128 + 13), ""));
+    let (status, reported) = unread(shell("trap '' PIPE; exec \"$0\" run"));
+    assert_eq!((status.code(), reported.as_str()), (Some(1), UNWRITTEN));
 }

@@ -6,8 +6,7 @@ use std::process::{Command, Output, Stdio};
 
 use generate::runfiles::RunFile;
 use generate::{Random, Shape};
-use program::root;
-use second::runfile::run;
+use program::{launcher, wanted};
 
 /// What ends the progress line: back to its start, and all erased.
 const ERASED: &[u8] = b"\r\x1b[K";
@@ -22,9 +21,7 @@ fn run_file(name: &str, beats: usize) -> (PathBuf, Vec<u8>) {
     let text = RunFile::of_length(&mut Random::new(107), shape, 0b11111, beats).text();
     let path = Path::new(env!("CARGO_TARGET_TMPDIR")).join(name);
     fs::write(&path, &text).expect("the run file can be written");
-    let mut printed = Vec::new();
-    run(&text[..], &mut printed).expect("a vector takes all");
-    (path, printed)
+    (path, wanted(&text))
 }
 
 fn finished(command: &mut Command) -> Output {
@@ -35,11 +32,7 @@ fn finished(command: &mut Command) -> Output {
 
 /// All that a terminal receives from the launcher, which has it for both outputs.
 fn on_terminal(path: &Path) -> Vec<u8> {
-    let run = format!(
-        "'{}' run '{}'",
-        root().join("tsendurkho").display(),
-        path.display()
-    );
+    let run = format!("'{}' run '{}'", launcher().display(), path.display());
     let script = ["--quiet", "--return", "--command", &run, "/dev/null"];
     finished(Command::new("script").args(script)).stdout
 }
@@ -60,7 +53,7 @@ fn progress(received: &[u8]) -> Option<u32> {
 fn nothing_is_said_where_there_is_no_terminal() {
     let (path, printed) = run_file("long-no-terminal.txt", 150);
     assert!(fs::metadata(&path).unwrap().len() > 1_000_000);
-    let output = finished(Command::new(root().join("tsendurkho")).arg("run").arg(path));
+    let output = finished(Command::new(launcher()).arg("run").arg(path));
     assert!(output.stdout == printed);
     assert_eq!(output.stderr, b"");
 }

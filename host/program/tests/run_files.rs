@@ -6,7 +6,7 @@ use std::process::{Command, Stdio};
 
 use generate::runfiles::{damaged, Damage, RunFile};
 use generate::{Random, Shape};
-use program::{launcher, output_of, root, send, wanted};
+use program::{launcher, output_of, send, wanted};
 
 /// A text cut in pieces of one byte up to this many.
 fn pieces<'a>(random: &mut Random, text: &'a [u8], longest: usize) -> Vec<&'a [u8]> {
@@ -90,22 +90,6 @@ fn beats_to_the_last_and_one_more() {
         let output = output_of(&pieces(&mut random, &whole, 70_000));
         assert_eq!(output, wanted(&whole));
     }
-}
-
-#[test]
-fn the_examples_print_what_stands_beside_them() {
-    let mut found = 0;
-    for entry in fs::read_dir(root().join("examples")).expect("there are examples") {
-        let path = entry.expect("an example").path();
-        if path.extension().map_or(false, |end| end == "out") {
-            let text = fs::read(path.with_extension("txt")).expect("its run file");
-            let printed = fs::read(&path).expect("what it prints");
-            assert_eq!(output_of(&[&text]), printed, "{}", path.display());
-            assert_eq!(wanted(&text), printed, "{}", path.display());
-            found += 1;
-        }
-    }
-    assert!(found >= 3);
 }
 
 /// The program writes what it knows before it reads on. So when all but what a pipe and the program hold of a long input is

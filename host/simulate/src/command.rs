@@ -11,15 +11,90 @@ const RUNS: u64 = 2_000;
 const TOLD: usize = 10;
 const LONG: usize = 10;
 
-/// Of the launcher's command `simulate`: what `--svg` does is the package picture's.
-pub const USAGE: &str = "\
-usage: simulate [RUNS]                    how late the sound cards agree in RUNS runs
-       simulate --fault cooldown [RUNS]   the same runs with wrong cooldowns beside
-       simulate --seed SEED               one run with each cooldown
-       simulate --svg FILE [--seed SEED]  a run, and the lags of two cards, drawn into FILE
-       simulate --lies                    how the broken cards lie
-RUNS is 2000 where it is missing. A run that agrees later than T(f) is an error.
-";
+/// What the arguments of the launcher's command `simulate` ask for.
+#[derive(Debug, PartialEq, Eq)]
+pub enum Request<'a> {
+    /// The latest beat of agreement in so many runs.
+    Agreement(u64),
+    /// The same runs with wrong cooldowns beside.
+    Fault(u64),
+    /// One run with each cooldown.
+    OneRun(u64),
+    /// A run drawn into a file, which is what the package picture does.
+    Picture {
+        file: &'a str,
+        seed: Option<u64>,
+    },
+    Lies,
+}
+
+/// The options and the argument that stand there, in any order.
+#[derive(Default)]
+struct Given<'a> {
+    runs: Option<u64>,
+    fault: Option<&'a str>,
+    seed: Option<u64>,
+    svg: Option<&'a str>,
+    lies: Option<()>,
+}
+
+/// The request, or one line that says what is wrong with the arguments.
+pub fn request<'a>(arguments: &[&'a str]) -> Result<Request<'a>, String> {
+    let read = given(arguments).and_then(|given| {
+        let apart = || format!("these do not go together: {}", arguments.join(" "));
+        given.request().ok_or_else(apart)
+    });
+    read.map_err(|message| format!("simulate: {message}; try ./tsendurkho simulate --help\n"))
+}
+
+fn given<'a>(arguments: &[&'a str]) -> Result<Given<'a>, String> {
+    let mut given = Given::default();
+    let mut words = arguments.iter().copied();
+    while let Some(word) = words.next() {
+        let mut value = || words.next().ok_or(format!("{word} lacks its value"));
+        match word {
+            "--fault" => once(word, &mut given.fault, known_fault(value()?)?)?,
+            "--seed" => once(word, &mut given.seed, number("SEED", value()?)?)?,
+            "--svg" => once(word, &mut given.svg, value()?)?,
+            "--lies" => once(word, &mut given.lies, ())?,
+            _ if word.starts_with('-') => return Err(format!("there is no option '{word}'")),
+            _ if given.runs.is_some() => return Err(format!("one argument too many: '{word}'")),
+            _ => given.runs = Some(number("RUNS", word)?),
+        }
+    }
+    Ok(given)
+}
+
+fn once<T>(option: &str, place: &mut Option<T>, value: T) -> Result<(), String> {
+    match place.replace(value) {
+        None => Ok(()),
+        Some(_) => Err(format!("{option} is given twice")),
+    }
+}
+
+fn known_fault(name: &str) -> Result<&str, String> {
+    let known = Some(name).filter(|&name| name == "cooldown");
+    known.ok_or_else(|| format!("--fault knows 'cooldown' alone, not '{name}'"))
+}
+
+fn number(name: &str, text: &str) -> Result<u64, String> {
+    let parsed = text.parse();
+    parsed.map_err(|_| format!("{name} has to be a number, not '{text}'"))
+}
+
+impl<'a> Given<'a> {
+    /// Nothing where what is given does not go together.
+    fn request(&self) -> Option<Request<'a>> {
+        match (self.runs, self.fault, self.seed, self.svg, self.lies) {
+            (runs, None, None, None, None) => Some(Request::Agreement(runs.unwrap_or(RUNS))),
+            (runs, Some(_), None, None, None) => Some(Request::Fault(runs.unwrap_or(RUNS))),
+            (None, None, Some(seed), None, None) => Some(Request::OneRun(seed)),
+            (None, None, seed, Some(file), None) => Some(Request::Picture { file, seed }),
+            (None, None, None, None, Some(())) => Some(Request::Lies),
+            _ => None,
+        }
+    }
+}
 
 /// What goes to standard output and to standard error. Any error makes the program fail.
 #[derive(Debug, Default, PartialEq, Eq)]
@@ -37,21 +112,18 @@ impl From<String> for Answer {
     }
 }
 
-pub fn answer(arguments: &[&str]) -> Answer {
-    let number = |text: &str| text.parse().ok();
-    let known = match *arguments {
-        [] => Some(agreement(RUNS)),
-        ["--fault", "cooldown"] => Some(fault(RUNS)),
-        ["--fault", "cooldown", runs] => number(runs).map(fault),
-        ["--seed", seed] => number(seed).map(with_each_cooldown),
-        ["--lies"] => Some(lies()),
-        [runs] => number(runs).map(agreement),
-        _ => None,
-    };
-    known.unwrap_or_else(|| Answer {
-        errors: USAGE.to_string(),
-        ..Answer::default()
-    })
+/// A picture is not drawn here, since what links the archive stands apart.
+pub fn answer(request: &Request) -> Answer {
+    match *request {
+        Request::Agreement(runs) => agreement(runs),
+        Request::Fault(runs) => fault(runs),
+        Request::OneRun(seed) => with_each_cooldown(seed),
+        Request::Lies => lies(),
+        Request::Picture { .. } => Answer {
+            errors: "simulate: the package picture draws with --svg\n".to_string(),
+            ..Answer::default()
+        },
+    }
 }
 
 /// The table of the runs by the rules; late runs are errors.

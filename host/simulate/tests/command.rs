@@ -1,11 +1,15 @@
 //! What the program answers.
 
-use simulate::command::{answer, Answer};
+use simulate::command::{answer, request, Answer, Request};
 use simulate::strategy::STRATEGIES;
+
+fn answer_to(arguments: &[&str]) -> Answer {
+    answer(&request(arguments).expect("these arguments are right"))
+}
 
 /// The words of each line of an answer without errors.
 fn lines(arguments: &[&str]) -> Vec<Vec<String>> {
-    let Answer { output, errors } = answer(arguments);
+    let Answer { output, errors } = answer_to(arguments);
     assert_eq!(errors, "");
     let words = |line: &str| line.split_whitespace().map(String::from).collect();
     output.lines().map(words).collect()
@@ -29,7 +33,7 @@ fn the_table_has_a_row_for_each_f() {
 #[test]
 fn the_answer_is_the_same_each_time() {
     assert!(lines(&["6"]).len() > 1);
-    assert_eq!(answer(&["6"]), answer(&["6"]));
+    assert_eq!(answer_to(&["6"]), answer_to(&["6"]));
 }
 
 #[test]
@@ -55,23 +59,66 @@ fn one_run_is_told_with_each_cooldown() {
 
 #[test]
 fn every_strategy_is_described() {
-    let told = answer(&["--lies"]).output;
+    let told = answer_to(&["--lies"]).output;
     for strategy in STRATEGIES {
         assert!(told.contains(strategy.name) && told.contains(strategy.description));
     }
 }
 
 #[test]
-fn other_arguments_get_the_usage_as_an_error() {
-    for wrong in [
-        &["many"][..],
-        &["--fault"],
-        &["--fault", "kings"],
-        &["1", "2"],
-        &["--seed"],
+fn what_the_arguments_ask_for() {
+    let (file, seed) = ("run.svg", Some(7));
+    for (arguments, wanted) in [
+        (&[][..], Request::Agreement(2_000)),
+        (&["5"], Request::Agreement(5)),
+        (&["--fault", "cooldown"], Request::Fault(2_000)),
+        (&["5", "--fault", "cooldown"], Request::Fault(5)),
+        (&["--seed", "7"], Request::OneRun(7)),
+        (&["--svg", file], Request::Picture { file, seed: None }),
+        (
+            &["--seed", "7", "--svg", file],
+            Request::Picture { file, seed },
+        ),
+        (&["--lies"], Request::Lies),
     ] {
-        let answer = answer(wrong);
-        assert_eq!(answer.output, "");
-        assert!(answer.errors.starts_with("usage:"), "{wrong:?}");
+        assert_eq!(request(arguments), Ok(wanted));
     }
+}
+
+#[test]
+fn wrong_arguments_are_named() {
+    for (wrong, said) in [
+        (&["many"][..], "RUNS has to be a number, not 'many'"),
+        (&["-1"], "there is no option '-1'"),
+        (&["--fast"], "there is no option '--fast'"),
+        (&["1", "2"], "one argument too many: '2'"),
+        (&["--fault"], "--fault lacks its value"),
+        (
+            &["--fault", "kings"],
+            "--fault knows 'cooldown' alone, not 'kings'",
+        ),
+        (&["--seed"], "--seed lacks its value"),
+        (&["--seed", "many"], "SEED has to be a number, not 'many'"),
+        (&["--seed", "1", "--seed", "2"], "--seed is given twice"),
+        (&["--svg"], "--svg lacks its value"),
+        (
+            &["--lies", "--seed", "1"],
+            "these do not go together: --lies --seed 1",
+        ),
+        (
+            &["--svg", "run.svg", "5"],
+            "these do not go together: --svg run.svg 5",
+        ),
+    ] {
+        let line = format!("simulate: {said}; try ./tsendurkho simulate --help\n");
+        assert_eq!(request(wrong), Err(line));
+    }
+}
+
+/// What links the archive stands apart.
+#[test]
+fn a_picture_is_not_drawn_here() {
+    let Answer { output, errors } = answer_to(&["--svg", "run.svg"]);
+    assert_eq!(output, "");
+    assert_eq!(errors.lines().count(), 1, "{errors}");
 }

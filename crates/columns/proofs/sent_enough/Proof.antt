@@ -11,28 +11,29 @@ use Rattle.columns.proofs.sent_enough.Tie as tie
 
 -- the words of the column
 abbrev words : tie.Start → ℕ → ℕ
-words s = wordIn (s .args .recs .now) (s .args .col)
+words start = wordIn (start .args .recs .now) (start .args .col)
 
 a-count : tie.Need-returns
 a-count c =
     let y = c .before .before .before .y in
-    let s = c .before .before .before .before .before .before in
-    let n = s .args .col .n in
+    let start = c .before .before .before .before .before .before in
+    let n = start .args .col .n in
     rw (y .given .1)
-    (c .all-but .ensures ∙ ap (enough n (s .args .f)) (sent-x (words s) (s .args .m) n (y .given .0 .0) (omega arith)))
+    (c .all-but .ensures ∙ ap (enough n (start .args .f)) (sent-x (words start) (start .args .m) n (y .given .0 .0) (omega arith)))
 
 no-count : tie.Need-returns-2
 no-count c =
     let y = c .before .before .before .y in
-    let s = c .before .before .before .before .before .before in
-    let n = s .args .col .n in
-    rw (y .given .1, sent-never (words s) (s .args .m) n (y .given .0 .0) (c .before .if1 .left)) (enough-zero n (s .args .f))
+    let start = c .before .before .before .before .before .before in
+    let n = start .args .col .n in
+    rw (y .given .1, sent-never (words start) (start .args .m) n (y .given .0 .0) (c .before .if1 .left)) (enough-zero n (start .args .f))
 
 none : tie.Need-returns-3
 none c =
-    let s = c .before .before .before .before in
-    let n = s .args .col .n in
-    rw (c .before .enum-told .given .1, c .more-than .ensures) (enough-rest n (s .args .f) _ _ (sent-none (words s) (s .args .m) n))
+    let start = c .before .before .before .before in
+    let n = start .args .col .n in
+    rw (c .before .enum-told .given .1, c .more-than .ensures)
+    (enough-rest n (start .args .f) _ _ (sent-none (words start) (start .args .m) n))
 
 pub sent-enough-spec : {M : Type 1} → statement M
 sent-enough-spec =

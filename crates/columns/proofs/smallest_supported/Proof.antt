@@ -64,13 +64,13 @@ loop-again c =
 
 -- the votes of the column
 abbrev votes : tie.Start Inv-loop μ-loop → ℕ → Vote
-votes s = votesIn (s .args .c) (s .args .recs .now) (s .args .col)
+votes start = votesIn (start .args .c) (start .args .recs .now) (start .args .col)
 
 -- what was sent and lies below the best is not supported
 passed : (c : tie.After-loop Inv-loop μ-loop)
-    → let s = c .before .before .before in
-    let n = s .args .col .n in
-    (v x : ℕ) → v < n → votes s v ≡ Count x → x < c .before .loop .best → sentBy n (votes s) (Count x) ≤ s .args .f
+    → let start = c .before .before .before in
+    let n = start .args .col .n in
+    (v x : ℕ) → v < n → votes start v ≡ Count x → x < c .before .loop .best → sentBy n (votes start) (Count x) ≤ start .args .f
 passed c v x lv e l =
     let a = c .before .before .before .args in
     let s : wordIn (a .recs .now) (a .col) v ≡ x = read-is (a .c) (wordIn (a .recs .now) (a .col) v) x e .0 in
@@ -79,16 +79,16 @@ passed c v x lv e l =
 found : tie.Need-returns Inv-loop μ-loop
 found c =
     let l = c .before .before in
-    let s = l .before .before in
+    let start = l .before .before in
     sym
-    (supported-found (votes s) (s .args .col .n) (s .args .f) (s .args .c) (l .loop .best) (c .if3 .taken)
+    (supported-found (votes start) (start .args .col .n) (start .args .f) (start .args .c) (l .loop .best) (c .if3 .taken)
     (l .loop .inv .2 (c .if3 .taken)) (passed (c .before)))
 
 none : tie.Need-returns-2 Inv-loop μ-loop
 none c =
-    let s = c .before .before .before .before in
+    let start = c .before .before .before .before in
     sym
-    (supported-none (votes s) (s .args .col .n) (s .args .f) (s .args .c)
+    (supported-none (votes start) (start .args .col .n) (start .args .f) (start .args .c)
     (λ v x lv e l. passed (c .before) v x lv e (omega arith)))
 
 pub smallest-supported-spec : {M : Type 1} → statement M

@@ -26,7 +26,7 @@ abbrev μ-loop : tie.MeasureT-loop
 
 -- the votes of the column
 abbrev votes : tie.Start Inv-loop μ-loop → ℕ → Vote
-votes s = votesIn (s .args .m) (s .args .recs .now) (s .args .col)
+votes start = votesIn (start .args .m) (start .args .recs .now) (start .args .col)
 
 -- where x is sent once more: its tally is small, and is how often it was sent
 more : (c : tie.Then1 Inv-loop μ-loop)
@@ -48,11 +48,11 @@ more c =
 found : tie.Need-returns Inv-loop μ-loop
 found c =
     let l = c .before .before .before .before in
-    let s = l .before .before in
+    let start = l .before .before in
     let x = c .before .before .said .result in
     let enough = more (c .before) .2 in
     sym
-    (vote-found (votes s) (s .args .col .n) (s .args .f) (s .args .m) (l .loop .u + 1) x
+    (vote-found (votes start) (start .args .col .n) (start .args .f) (start .args .m) (l .loop .u + 1) x
     (omega arith) (omega arith) (omega arith) (omega (arith, enough)))
 
 loop-again : tie.Need-loop-again Inv-loop μ-loop
@@ -81,10 +81,10 @@ loop-again c =
 
 returns : tie.Need-returns-2 Inv-loop μ-loop
 returns c =
-    let s = c .before .before .before in
-    let n = s .args .col .n in
+    let start = c .before .before .before in
+    let n = start .args .col .n in
     let e : c .before .loop .u ≡ n = omega arith in
-    sym (vote-none (votes s) n (s .args .f) (s .args .m) (rw e at (c .before .loop .inv .3)))
+    sym (vote-none (votes start) n (start .args .f) (start .args .m) (rw e at (c .before .loop .inv .3)))
 
 pub vote-of-spec : {M : Type 1} → statement M
 vote-of-spec =

@@ -8,7 +8,9 @@ use Rattle.feed.proofs.Calls.{feeds-reading, feeds-stopped}
 use Rattle.feed.proofs.feed_from.Statement.{statement}
 use Rattle.feed.proofs.feed_from.Tie as tie
 
-within : (c : tie.After-line-end) → c .line-end .result ≤ length (c .before .before .before .args .piece .now)
+within : (c : tie.After-line-end)
+    → let start = c .before .before .before in
+    c .line-end .result ≤ length (start .args .piece .now)
 within c =
     let a = c .before .before .before .args in
     rw (c .line-end .ensures) (end-within (a .piece .now) (c .before .least .result) (omega (arith, c .before .least .ensures)))
@@ -19,7 +21,8 @@ stopped c =
     let e = n .before in
     let a = e .before .before .before .args in
     rw (c .enum-told .given .1)
-    (feeds-stopped (a .at) _ _ _ (a .piece .now) (a .line .now) (a .table .now) (a .out .now) (e .before .least .ensures) (e .line-end .ensures) (n .least2 .ensures))
+    (feeds-stopped (a .at) _ _ _ (a .piece .now) (a .line .now) (a .table .now) (a .out .now)
+    (e .before .least .ensures) (e .line-end .ensures) (n .least2 .ensures))
 
 reading : tie.Need-returns-2
 reading c =
@@ -27,9 +30,10 @@ reading c =
     let n = k .before .before in
     let e = n .before in
     let a = e .before .before .before .args in
+    let held = k .feed .given .0 in
     rw (k .feed .given .1)
-    (feeds-reading (k .feed .given .0 .0) (k .feed .given .0 .1 .0) (a .at) _ _ _ (a .piece .now) (a .line .now) (a .table .now) (a .out .now) _ _ _ _ _
-    (e .before .least .ensures) (e .line-end .ensures) (n .least2 .ensures) (c .feed-part .ensures .0) (c .feed-part .ensures .1))
+    (feeds-reading (held .0) (held .1 .0) (a .at) _ _ _ (a .piece .now) (a .line .now) (a .table .now) (a .out .now) _ _ _ _ _
+    (e .before .least .ensures) (e .line-end .ensures) (n .least2 .ensures) (c .feed-part .ensures))
 
 pub feed-from-spec : {M : Type 1} → statement M
 feed-from-spec =

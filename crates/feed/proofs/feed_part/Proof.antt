@@ -1,9 +1,9 @@
 -- `feed::feed_part` meets its contract: the part is held, and at a line feed the line is at its end.
 use borrow.Author.Needs.{needs}
 use mathlib.Core.List.{_++_}
-use Prim.Native.Nat.{_-_}
+use Prim.Native.Nat.{_-_, _<_}
 use native.Mathlib.Omega.{arith}
-use lib.ListN.{take, drop, length-take}
+use lib.ListN.{length, take, drop, length-take}
 use Rattle.text.proofs.FirstLine.{end-within}
 use Rattle.runfile.specs.Runs.{stageOf}
 use Rattle.feed.specs.Feeds.{longest}
@@ -14,29 +14,39 @@ use Rattle.feed.proofs.feed_part.Tie as tie
 
 hold-requires : tie.Need-hold-requires
 hold-requires c κs =
-    let s = c .before .before .before .before in
-    (s .pre .2, omega (arith, s .pre .1), rw (s .pre .1) (end-within (s .args .piece .now) (s .args .from) (s .pre .0)))
+    let start = c .before .before .before .before in
+    let part = start .pre .0 in
+    record {
+      line-size = start .pre .1 .line-size;
+      forward = omega (arith, part .at-end);
+      inside = rw (part .at-end) (end-within (start .args .piece .now) (start .args .from) (part .inside));
+    }
 
 unfinished : tie.Need-returns
 unfolding machineOf
 unfinished c =
     let k = c .before .before .before in
     let h = k .hold in
-    let s = k .before .before .before .before .before in
-    let a = s .args in
-    let part = take (a .end - a .from) (drop (a .from) (a .piece .now)) in (
-      h .ensures .kept,
-      rw (fed-held (a .line .now) (a .held) (s .pre .2) (stageOf (a .stage) (a .table .now)) (a .piece .now) (a .from) (a .end) (s .pre .0) (s .pre .1) (c .if1 .taken))
-          (holds-stands (a .stage) (a .held) (h .result) (a .line .now) part (a .table .now) (a .out .now) _ (h .ensures)),
-    )
+    let start = k .before .before .before .before .before in
+    let a = start .args in
+    let line = a .line .now in
+    let piece = a .piece .now in
+    let stage = stageOf (a .stage) (a .table .now) in
+    let part = take (a .end - a .from) (drop (a .from) piece) in
+    record {
+      held-is = h .ensures .kept;
+      stands = rw (fed-held line (a .held) (start .pre .1 .line-size) stage piece (a .from) (a .end) (start .pre .0) (c .if1 .taken))
+          (holds-stands (a .stage) (a .held) (h .result) line part (a .table .now) (a .out .now) _ (h .ensures));
+    }
 
 end-line-requires : tie.Need-end-line-requires
 end-line-requires c κs =
     let h = c .before .before .before .before .before .before in
-    let s = h .before .before .before .before .before in
-    let a = s .args in
+    let start = h .before .before .before .before .before in
+    let a = start .args in
     let part = take (a .end - a .from) (drop (a .from) (a .piece .now)) in
-    (omega (arith, s .pre .2, h .hold .kept .0, h .hold .ensures .count, length-take longest (take (a .held) (a .line .now) ++ part)), s .pre .3)
+    let all = length-take longest (take (a .held) (a .line .now) ++ part) in
+    (omega (arith, start .pre .1 .line-size, h .hold .kept .0, h .hold .ensures .count, all), start .pre .1 .table-size)
 
 finished : tie.Need-returns-2
 unfolding machineOf
@@ -45,13 +55,28 @@ finished c =
     let e = t .before .before .before .before in
     let k = e .before .before .before in
     let h = k .hold in
-    let s = k .before .before .before .before .before in
-    let a = s .args in
-    let l = end-within (a .piece .now) (a .from) (s .pre .0) in (
-      h .ensures .kept,
-      rw (fed-ended (a .line .now) (a .held) (s .pre .2) (stageOf (a .stage) (a .table .now)) (a .piece .now) (a .from) (a .end) (s .pre .0) (s .pre .1) (omega (arith, l, s .pre .1, e .if1 .left)))
-          (rw (h .ensures .whole) at (t .end-line .ensures)),
-    )
+    let start = k .before .before .before .before .before in
+    let a = start .args in
+    let line = a .line .now in
+    let piece = a .piece .now in
+    let stage = stageOf (a .stage) (a .table .now) in
+    let part = start .pre .0 in
+    let l = end-within piece (a .from) (part .inside) in
+    let before : a .end < length piece = omega (arith, l, part .at-end, e .if1 .left) in
+    record {
+      held-is = h .ensures .kept;
+      stands = rw (fed-ended line (a .held) (start .pre .1 .line-size) stage piece (a .from) (a .end) part before)
+          (rw (h .ensures .whole) at (t .end-line .ensures));
+    }
 
 pub feed-part-spec : {M : Type 1} → statement M
-feed-part-spec = tie.close (tie.spec hold-requires (λ c. search needs) unfinished end-line-requires (λ c. search needs) (λ c. search needs) finished)
+feed-part-spec =
+    tie.close
+    (tie.spec
+    hold-requires
+    (λ c. search needs)
+    unfinished
+    end-line-requires
+    (λ c. search needs)
+    (λ c. search needs)
+    finished)

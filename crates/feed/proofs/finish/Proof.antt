@@ -10,7 +10,9 @@ stopped c =
     rw (c .enum-told .given .1) (finishes-stopped (a .line .now) (a .table .now) (a .out .now))
 
 reading : tie.Need-returns-2
-reading c = rw (c .before .before .before .before .before .feed .given .1) (c .finish-line .ensures)
+reading c =
+    let held = c .before .before .before .before .before in
+    rw (held .feed .given .1) (c .finish-line .ensures)
 
 pub finish-spec : {M : Type 1} → statement M
 finish-spec =

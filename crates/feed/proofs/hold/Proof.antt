@@ -25,16 +25,18 @@ take-both a b l = ⊎-elim
 returns : tie.Need-returns
 returns c =
     let k = c .before .before in
-    let s = k .before .before .before .before .before .before in
-    let a = s .args in
-    let start = k .before .before .before .least in
-    let count = k .before .before .least2 in
+    let start = k .before .before .before .before .before .before in
+    let a = start .args in
+    let counted = k .before .before in
+    let already = counted .before .least in
+    let count = counted .least2 in
     let rest = drop (a .from) (a .piece .now) in
     let part = take (a .end - a .from) rest in
-    let size : length part ≡ a .end - a .from = length-take-le (a .end - a .from) rest (omega (arith, length-drop (a .from) (a .piece .now))) in
-    part-holds (a .line .now) (a .held) (s .pre .0) part _ _
-    (rw (size, count .ensures, start .ensures))
-    (k .keep .ensures ∙ rw (count .ensures, take-both (a .end - a .from) (longest - start .result) rest, start .ensures))
+    let size : length part ≡ a .end - a .from =
+    length-take-le (a .end - a .from) rest (omega (arith, length-drop (a .from) (a .piece .now))) in
+    part-holds (a .line .now) (a .held) (start .pre .line-size) part _ _
+    (rw (size, count .ensures, already .ensures))
+    (k .keep .ensures ∙ rw (count .ensures, take-both (a .end - a .from) (longest - already .result) rest, already .ensures))
 
 pub hold-spec : {M : Type 1} → statement M
 hold-spec =
@@ -44,7 +46,9 @@ hold-spec =
     (λ c. search needs)
     (λ c. search needs)
     (λ c κs. search needs)
-    (λ c κs. omega (arith, c .before .before .before .before .before .pre .0, c .before .before .before .before .before .pre .2, c .before .before .least .ensures, c .before .least2 .ensures))
-    (λ c. omega (arith, c .before .before .before .before .before .least .ensures, c .before .before .before .before .least2 .ensures))
+    (λ c κs. let start = c .before .before .before .before .before in
+    omega (arith, start .pre .line-size, start .pre .inside, c .before .before .least .ensures, c .before .least2 .ensures))
+    (λ c. let counted = c .before .before .before .before in
+    omega (arith, counted .before .least .ensures, counted .least2 .ensures))
     (λ c. search needs)
     returns)

@@ -58,59 +58,59 @@ pub +step-half+step-split-spec : {M : Type 1} → statement M
       half-one-reads.Learnt,
     )
     (step-half-at t) step-half.Post
-    (λ c κs. let s = c .before .before .before .before .before .before in halves-asked (s .pre .1 .0) .0)
-    (λ c κs. let s = c .before .before .before .before .before .before .before .before in
-    let h = half-smaller 0 (s .pre .1 .0 .split) (omega arith) (c .before .half-zero .ensures) in
-    record { fits = h .fits; none = omega arith; place = omega (arith, s .pre .1 .1) })
-    (λ c κs. let s = c .before .before .before .before .before .before in halves-asked (s .pre .1 .0) .0)
-    (λ c κs. let s = c .before .before .before .before .before .before .before .before in
-    let h = half-smaller 0 (s .pre .1 .0 .split) (omega arith) (c .before .half-zero2 .ensures) in (
-      omega (arith, s .pre .0),
-      record { split = record { fits = h .fits; some = omega arith }; member = omega arith; words = omega (arith, s .pre .1 .1) },
+    (λ c κs. let start = c .before .before .before .before .before .before in halves-asked (start .pre .1 .0) .0)
+    (λ c κs. let start = c .before .before .before .before .before .before .before .before in
+    let h = half-smaller 0 (start .pre .1 .0 .split) (omega arith) (c .before .half-zero .ensures) in
+    record { fits = h .fits; none = omega arith; place = omega (arith, start .pre .1 .1) })
+    (λ c κs. let start = c .before .before .before .before .before .before in halves-asked (start .pre .1 .0) .0)
+    (λ c κs. let start = c .before .before .before .before .before .before .before .before in
+    let h = half-smaller 0 (start .pre .1 .0 .split) (omega arith) (c .before .half-zero2 .ensures) in (
+      omega (arith, start .pre .0),
+      record { split = record { fits = h .fits; some = omega arith }; member = omega arith; words = omega (arith, start .pre .1 .1) },
     ))
-    (λ c κs. let s = c .before .before .before .before .before .before in
-    (halves-asked (s .pre .1 .0) .1, split-cards (s .pre .1 .0 .split)))
-    (λ c κs. let s = c .before .before .before .before .before .before .before .before in
-    let h = half-smaller 1 (s .pre .1 .0 .split) (omega arith) (c .before .half-one .ensures) in
-    record { fits = h .fits; none = omega arith; place = omega (arith, s .pre .1 .1) })
-    (λ c κs. let s = c .before .before .before .before .before .before in
-    (halves-asked (s .pre .1 .0) .1, split-cards (s .pre .1 .0 .split)))
-    (λ c κs. let s = c .before .before .before .before .before .before .before .before in
-    let h = half-smaller 1 (s .pre .1 .0 .split) (omega arith) (c .before .half-one2 .ensures) in (
-      omega (arith, s .pre .0),
+    (λ c κs. let start = c .before .before .before .before .before .before in
+    (halves-asked (start .pre .1 .0) .1, split-cards (start .pre .1 .0 .split)))
+    (λ c κs. let start = c .before .before .before .before .before .before .before .before in
+    let h = half-smaller 1 (start .pre .1 .0 .split) (omega arith) (c .before .half-one .ensures) in
+    record { fits = h .fits; none = omega arith; place = omega (arith, start .pre .1 .1) })
+    (λ c κs. let start = c .before .before .before .before .before .before in
+    (halves-asked (start .pre .1 .0) .1, split-cards (start .pre .1 .0 .split)))
+    (λ c κs. let start = c .before .before .before .before .before .before .before .before in
+    let h = half-smaller 1 (start .pre .1 .0 .split) (omega arith) (c .before .half-one2 .ensures) in (
+      omega (arith, start .pre .0),
       record {
         split = record { fits = h .fits; some = omega arith };
-        member = omega (arith, s .pre .1 .0 .member);
-        words = omega (arith, s .pre .1 .1);
+        member = omega (arith, start .pre .1 .0 .member);
+        words = omega (arith, start .pre .1 .1);
       },
     ))
     (λ c. c .before .before .step-leaf .kept .1 .1 .0)
     (λ c. let h = c .before .before .before .before in
     let first = h .before .before .before in
-    let s = first .before .before .before .before in
-    let a = s .args in
-    half-is (a .recs .now) 0 (a .card) (a .card) (a .out .now) _ (s .pre .1 .0 .split) (omega arith) (h .half-zero .ensures)
+    let start = first .before .before .before .before in
+    let a = start .args in
+    half-is (a .recs .now) 0 (a .card) (a .card) (a .out .now) _ (start .pre .1 .0 .split) (omega arith) (h .half-zero .ensures)
     (simp (lt-ltb _ _ (first .if1 .taken))) (omega arith) (c .before .before .step-leaf .ensures (a .card)))
     (λ c. c .before .before .step-split .kept .1 .1 .1 .0)
     (λ c. let h = c .before .before .before .before in
     let first = h .before .before .before in
-    let s = first .before .before .before .before in
-    let a = s .args in
-    half-is (a .recs .now) 0 (a .card) (a .card) (a .out .now) _ (s .pre .1 .0 .split) (omega arith) (h .half-zero2 .ensures)
+    let start = first .before .before .before .before in
+    let a = start .args in
+    half-is (a .recs .now) 0 (a .card) (a .card) (a .out .now) _ (start .pre .1 .0 .split) (omega arith) (h .half-zero2 .ensures)
     (simp (lt-ltb _ _ (first .if1 .taken))) (omega arith) (c .before .before .step-split .ensures))
     (λ c. c .before .before .step-leaf2 .kept .1 .1 .0)
     (λ c. let h = c .before .before .before .before in
     let second = h .before .before .before in
-    let s = second .before .before .before .before in
-    let a = s .args in
-    half-is (a .recs .now) 1 (a .card) _ (a .out .now) _ (s .pre .1 .0 .split) (omega arith) (h .half-one .ensures)
+    let start = second .before .before .before .before in
+    let a = start .args in
+    half-is (a .recs .now) 1 (a .card) _ (a .out .now) _ (start .pre .1 .0 .split) (omega arith) (h .half-one .ensures)
     (simp (le-ltb _ _ (second .if1 .left))) refl (c .before .before .step-leaf2 .ensures _))
     (λ c. c .before .before .step-split2 .kept .1 .1 .1 .0)
     (λ c. let h = c .before .before .before .before in
     let second = h .before .before .before in
-    let s = second .before .before .before .before in
-    let a = s .args in
-    half-is (a .recs .now) 1 (a .card) _ (a .out .now) _ (s .pre .1 .0 .split) (omega arith) (h .half-one2 .ensures)
+    let start = second .before .before .before .before in
+    let a = start .args in
+    half-is (a .recs .now) 1 (a .card) _ (a .out .now) _ (start .pre .1 .0 .split) (omega arith) (h .half-one2 .ensures)
     (simp (le-ltb _ _ (second .if1 .left))) refl (c .before .before .step-split2 .ensures)))
     (λ t. step-split-lts.spec (
       row-of-reads.Asked,
@@ -124,25 +124,26 @@ pub +step-half+step-split-spec : {M : Type 1} → statement M
     )
     (step-split-at t) step-split.Post
     (λ c κs. c .before .before .pre .1 .split .fits .broken)
-    (λ c κs. let s = c .before .before .before .before in
-    record { split = s .pre .1 .split; member = s .pre .1 .member; row-is = c .before .row-of .ensures })
-    (λ c κs. let s = c .before .before .before .before .before in
-    omega (arith, s .pre .1 .words, eight-words (s .args .g .f) (s .pre .1 .split .some)))
+    (λ c κs. let start = c .before .before .before .before in
+    record { split = start .pre .1 .split; member = start .pre .1 .member; row-is = c .before .row-of .ensures })
+    (λ c κs. let start = c .before .before .before .before .before in
+    omega (arith, start .pre .1 .words, eight-words (start .args .g .f) (start .pre .1 .split .some)))
     (λ c κs. let put = c .before .before .before in
     let r = put .before .before .before in
-    let s = r .before .before .before in (
-      omega (arith, s .pre .0),
+    let start = r .before .before .before in (
+      omega (arith, start .pre .0),
       (
-        record { split = s .pre .1 .split; member = s .pre .1 .member; row-is = r .row-of .ensures },
-        omega (arith, s .pre .1 .words, put .put-level .kept .0),
+        record { split = start .pre .1 .split; member = start .pre .1 .member; row-is = r .row-of .ensures },
+        omega (arith, start .pre .1 .words, put .put-level .kept .0),
       ),
     ))
     (λ c. let put = c .before .before .before .before .before .before in
     c .before .before .step-half .kept .1 .1 .1 .1 .0 ∙ put .put-level .kept .0)
     (λ c. let put = c .before .before .before .before .before .before in
     let l = put .before in
-    let s = l .before .before .before .before .before in
-    let g = s .args .g in
-    node-is (g .n) (g .f) (g .c) (heardBy (s .args .recs .now) g) (s .args .card) (g .base) (s .args .out .now) (put .put-level .last .0)
-    _ (l .next-level .result) (s .pre .1 .split .some) (l .next-level .ensures) (put .put-level .ensures)
+    let start = l .before .before .before .before .before in
+    let a = start .args in
+    let g = a .g in
+    node-is (g .n) (g .f) (g .c) (heardBy (a .recs .now) g) (a .card) (g .base) (a .out .now) (put .put-level .last .0)
+    _ (l .next-level .result) (start .pre .1 .split .some) (l .next-level .ensures) (put .put-level .ensures)
     (c .before .before .step-half .ensures)))

@@ -33,6 +33,6 @@ leaf-word-spec =
     (λ c. search needs)
     (λ c. search needs)
     (λ c. search needs)
-    (λ c. let s = c .before .before .before .before .before .before in
-    omega (arith, mod-lt (c .before .count-or-0 .result + 1) {m = s .args .g .c} (omega (arith, s .pre .two)), s .pre .modulus))
+    (λ c. let start = c .before .before .before .before .before .before in
+    omega (arith, mod-lt (c .before .count-or-0 .result + 1) {m = start .args .g .c} (omega (arith, start .pre .two)), start .pre .modulus))
     returns)

@@ -7,12 +7,12 @@ pub step-group-spec : {M : Type 1} → statement M
 step-group-spec =
     tie.close
     (tie.spec
-    (λ c κs. let s = c .before .before .before .before .before in
-    record { fits = s .pre .fits; none = c .before .if1 .taken; place = omega (arith, s .pre .words) })
-    (λ c κs. let s = c .before .before .before .before .before in
-    record { split = record { fits = s .pre .fits; some = omega arith }; member = s .pre .member; words = s .pre .words })
+    (λ c κs. let start = c .before .before .before .before .before in
+    record { fits = start .pre .fits; none = c .before .if1 .taken; place = omega (arith, start .pre .words) })
+    (λ c κs. let start = c .before .before .before .before .before in
+    record { split = record { fits = start .pre .fits; some = omega arith }; member = start .pre .member; words = start .pre .words })
     (λ c. c .before .before .step-leaf .kept .1 .1 .0)
-    (λ c. let s = c .before .before .before .before .before .before .before .before in
-    c .before .before .step-leaf .ensures (s .args .card))
+    (λ c. let start = c .before .before .before .before .before .before .before .before in
+    c .before .before .step-leaf .ensures (start .args .card))
     (λ c. c .before .before .step-split .kept .1 .1 .1 .0)
     (λ c. c .before .before .step-split .ensures))

@@ -7,10 +7,10 @@ use Rattle.groups.proofs.step_leaf.Tie as tie
 
 returns : tie.Need-returns
 returns c =
-    let s = c .before .before .before in
-    let g = s .args .g in
-    λ card. leaf-is (g .n) (g .f) (g .c) (heardBy (s .args .recs .now) g) card (g .base) (s .args .out .now) (c .leaf-word .result)
-    (s .pre .none) (c .leaf-word .ensures)
+    let start = c .before .before .before in
+    let g = start .args .g in
+    λ card. leaf-is (g .n) (g .f) (g .c) (heardBy (start .args .recs .now) g) card (g .base) (start .args .out .now) (c .leaf-word .result)
+    (start .pre .none) (c .leaf-word .ensures)
 
 pub step-leaf-spec : {M : Type 1} → statement M
 step-leaf-spec =

@@ -10,9 +10,9 @@ column-requires c κs = rw (c .output-place .ensures .0) (outputs-within (c .bef
 
 most-requires : tie.Need-most-frequent-requires
 most-requires c κs =
-    let s = c .before .before .before .before in
+    let start = c .before .before .before .before in
     rw (c .before .column .ensures, c .before .before .output-place .ensures .0)
-    (record { within = outputs-within (s .pre .0); some = omega (arith, s .pre .0 .two); room = s .pre .1 })
+    (record { within = outputs-within (start .pre .0); some = omega (arith, start .pre .0 .two); room = start .pre .1 })
 
 returns : tie.Need-returns
 returns c =

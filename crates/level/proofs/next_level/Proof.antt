@@ -21,9 +21,9 @@ returns c =
     let voted = stand .before in
     let votes = voted .before .before in
     let own = votes .before .before in
-    let s = own .before .before in
-    let r = row s in
-    let common = half-common (s .args .recs .now) (s .args .g) in
+    let start = own .before .before in
+    let r = row start in
+    let common = half-common (start .args .recs .now) (start .args .g) in
     let m0 = one .before .common-output .ensures ∙ common (zero .half-zero .result) 0 (zero .half-zero .ensures) in
     let m1 = c .common-output2 .ensures ∙ common (one .half-one .result) 1 (one .half-one .ensures) in
     simp (
@@ -46,18 +46,18 @@ next-level-spec =
     tie.close
     (tie.spec
     (λ c κs. search needs)
-    (λ c κs. let s = c .before .before in record { split = s .pre .split; a-half = omega arith; modulus = row s .m0 })
-    (λ c κs. let s = c .before .before .before in record { split = s .pre .split; a-half = omega arith; modulus = row s .m1 })
-    (λ c κs. let s = c .before .before .before .before in omega (arith, row s .m0))
-    (λ c κs. let s = c .before .before .before .before .before in omega (arith, row s .m1))
+    (λ c κs. let start = c .before .before in record { split = start .pre .split; a-half = omega arith; modulus = row start .m0 })
+    (λ c κs. let start = c .before .before .before in record { split = start .pre .split; a-half = omega arith; modulus = row start .m1 })
+    (λ c κs. let start = c .before .before .before .before in omega (arith, row start .m0))
+    (λ c κs. let start = c .before .before .before .before .before in omega (arith, row start .m1))
     (λ c κs. let own = c .before .before .before .before in
-    let s = own .before .before in
-    (s .pre, own .read-level .ensures))
-    (λ c κs. let s = c .before .before .before .before .before .before .before in halves-asked (s .pre) .0)
-    (λ c κs. let s = c .before .before .before .before .before .before .before .before in
-    rw (c .half-zero .ensures) (half-fits (s .pre .split) 0 (omega arith), omega (arith, s .pre .split .fits .broken)))
-    (λ c κs. let s = c .before .before .before .before .before .before .before .before .before in
-    (halves-asked (s .pre) .1, split-cards (s .pre .split)))
-    (λ c κs. let s = c .before .before .before .before .before .before .before .before .before .before in
-    rw (c .half-one .ensures) (half-fits (s .pre .split) 1 (omega arith), omega (arith, s .pre .split .fits .broken)))
+    let start = own .before .before in
+    (start .pre, own .read-level .ensures))
+    (λ c κs. let start = c .before .before .before .before .before .before .before in halves-asked (start .pre) .0)
+    (λ c κs. let start = c .before .before .before .before .before .before .before .before in
+    rw (c .half-zero .ensures) (half-fits (start .pre .split) 0 (omega arith), omega (arith, start .pre .split .fits .broken)))
+    (λ c κs. let start = c .before .before .before .before .before .before .before .before .before in
+    (halves-asked (start .pre) .1, split-cards (start .pre .split)))
+    (λ c κs. let start = c .before .before .before .before .before .before .before .before .before .before in
+    rw (c .half-one .ensures) (half-fits (start .pre .split) 1 (omega arith), omega (arith, start .pre .split .fits .broken)))
     returns)

@@ -21,10 +21,10 @@ row c = row-is (c .args .g .f) (c .args .row) (c .pre .0 .split .some) (c .pre .
 king : (c : tie.After-phase) → c .phase .result / 3 < c .before .before .args .g .n
 unfolding phase
 king c =
-    let s = c .before .before in
-    let f = s .args .g .f in
+    let start = c .before .before in
+    let f = start .args .g .f in
     let below : c .phase .result < turn f = rw (c .phase .ensures) (mod-lt _ (omega arith)) in
-    let g = s .pre .0 .split in
+    let g = start .pre .0 .split in
     omega (arith, g .fits .few, g .some)
 
 returns : tie.Need-returns
@@ -33,11 +33,11 @@ returns c =
     let stepped = c .before in
     let column = stepped .before in
     let phased = column .before in
-    let s = phased .before .before in
-    let g = s .args .g in
-    let own = s .pre .1 in
-    stand-is (g .n) (g .f) (g .c) (heardBy (s .args .recs .now) g) (s .args .card) (phased .phase .result) (c .gain .result)
-    (standing (stepped .three-steps .result)) (s .pre .0 .split .some)
+    let start = phased .before .before in
+    let g = start .args .g in
+    let own = start .pre .1 in
+    stand-is (g .n) (g .f) (g .c) (heardBy (start .args .recs .now) g) (start .args .card) (phased .phase .result) (c .gain .result)
+    (standing (stepped .three-steps .result)) (start .pre .0 .split .some)
     (phased .phase .ensures ∙ rw own)
     (stepped .three-steps .ensures ∙ rw (column .column .ensures, own))
     (c .gain .ensures)

@@ -18,8 +18,8 @@ modulus-small (suc i) f l = rw (ne-eqb (suc i) 0 (omega arith)) (omega arith)
 returns : tie.Need-returns
 unfolding nextVote
 returns c =
-    let s = c .before .before .before .before in
-    rw (c .vote-of .ensures, c .before .before .column .ensures, s .pre .modulus)
+    let start = c .before .before .before .before in
+    rw (c .vote-of .ensures, c .before .before .column .ensures, start .pre .modulus)
 
 pub next-vote-spec : {M : Type 1} → statement M
 next-vote-spec =
@@ -27,12 +27,12 @@ next-vote-spec =
     (tie.spec
     (λ c κs. split-place (c .before .pre .split) (c .before .args .half) (omega arith))
     (λ c. search needs)
-    (λ c κs. let s = c .before .before .before in
-    let fits = s .pre .split .fits in
-    rw (c .before .column .ensures, s .pre .modulus)
+    (λ c κs. let start = c .before .before .before in
+    let fits = start .pre .split .fits in
+    rw (c .before .column .ensures, start .pre .modulus)
     (record {
-      within = column-within (s .pre .split) (s .args .half) (omega arith);
+      within = column-within (start .pre .split) (start .args .half) (omega arith);
       few = fits .few;
-      room = modulus-small (s .args .half) (s .args .g .f) (fits .broken);
+      room = modulus-small (start .args .half) (start .args .g .f) (fits .broken);
     }))
     returns)

@@ -13,11 +13,11 @@ returns c =
     let vote1 = wait0 .before .before in
     let vote0 = vote1 .before .before .before in
     let words = vote0 .before .before .before in
-    let s = words .before .before .before in
-    let some = s .pre .split .some in
-    let r = row-is (s .args .g .f) (s .args .row) some (s .pre .row-is) in
+    let start = words .before .before .before in
+    let some = start .pre .split .some in
+    let r = row-is (start .args .g .f) (start .args .row) some (start .pre .row-is) in
     simp (
-      ne-eqb (s .args .g .f) 0 (omega (arith, some)),
+      ne-eqb (start .args .g .f) 0 (omega (arith, some)),
       words .before .word-at .ensures,
       words .word-at2 .ensures,
       vote0 .read-vote .ensures,
@@ -57,6 +57,6 @@ read-level-spec =
     (λ c κs. let wait1 = c .before .before in
     let vote1 = wait1 .before .before .before .before in
     let words = vote1 .before .before .before .before .before .before in
-    let s = words .before .before .before in
-    record { split = s .pre .split; member = s .pre .member; place = omega arith })
+    let start = words .before .before .before in
+    record { split = start .pre .split; member = start .pre .member; place = omega arith })
     returns)

@@ -9,6 +9,6 @@ word-at-spec =
     tie.close
     (tie.spec
     (λ c κs. split-place (c .before .pre .split) (c .before .args .j) (omega arith))
-    (λ c κs. let s = c .before .before in
-    rw (c .column .ensures) (column-within (s .pre .split) (s .args .j) (omega arith), s .pre .member))
+    (λ c κs. let start = c .before .before in
+    rw (c .column .ensures) (column-within (start .pre .split) (start .args .j) (omega arith), start .pre .member))
     (λ c. rw (c .said .ensures, c .before .column .ensures)))

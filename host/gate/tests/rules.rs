@@ -1,70 +1,10 @@
-//! The pages hold together: what is cited is there, what is quoted is said, what is named is defined.
+//! docs/RULES.md and what goes by it: sections cited, sentences quoted, definitions named, the table and the example.
 
-use std::collections::{BTreeMap, BTreeSet};
-use std::fs;
-use std::path::{Path, PathBuf};
+use std::collections::BTreeSet;
 
+use gate::pages::{fenced, files, names, page, plain, read, rows, sections, texts};
 use program::{root, wanted};
 use second::params::parameters;
-
-fn read(path: &Path) -> String {
-    let text = fs::read_to_string(path);
-    text.unwrap_or_else(|error| panic!("{}: {error}", path.display()))
-}
-
-fn page(name: &str) -> String {
-    read(&root().join(name))
-}
-
-/// All files below a folder, or the file itself.
-fn files(path: &Path, found: &mut Vec<PathBuf>) {
-    if path.is_file() {
-        found.push(path.to_path_buf());
-        return;
-    }
-    for entry in fs::read_dir(path).expect("a folder of the repository") {
-        files(&entry.expect("an entry of a folder").path(), found);
-    }
-}
-
-/// The files that people read: all of the repository but the examples' data.
-fn texts() -> Vec<PathBuf> {
-    let mut found = Vec::new();
-    for part in ["crates", "docs", "host", "include", ".ci"] {
-        files(&root().join(part), &mut found);
-    }
-    found.extend(["README.md", "CHANGELOG.md", "tsendurkho"].map(|name| root().join(name)));
-    found
-}
-
-/// The text of each numbered section of the rules, its subsections with it.
-fn sections() -> BTreeMap<String, String> {
-    let mut sections: BTreeMap<String, String> = BTreeMap::new();
-    let mut open: Vec<String> = Vec::new();
-    for line in page("docs/RULES.md").lines() {
-        let depth = line.chars().take_while(|&sign| sign == '#').count();
-        if depth > 0 {
-            open.truncate(depth.saturating_sub(2));
-            let number = line[depth..].trim().split(' ').next().unwrap_or("");
-            if number.starts_with(|sign: char| sign.is_ascii_digit()) {
-                sections.insert(number.to_string(), String::new());
-                open.push(number.to_string());
-            }
-        }
-        for number in &open {
-            let section = sections.get_mut(number).expect("an open section");
-            section.push_str(line);
-            section.push('\n');
-        }
-    }
-    sections
-}
-
-/// One space for any white space, and no emphasis.
-fn plain(text: &str) -> String {
-    let words: Vec<&str> = text.split_whitespace().collect();
-    words.join(" ").replace("**", "")
-}
 
 /// The number of the section that a text begins with, as in "5.3: ..".
 fn number_in_front(text: &str) -> &str {
@@ -135,23 +75,6 @@ fn every_sentence_that_is_quoted_is_in_its_section() {
     assert!(quoted > 60, "{quoted}");
 }
 
-/// The names between backquotes.
-fn names(cell: &str) -> impl Iterator<Item = &str> {
-    let quoted = cell.split('`').skip(1).step_by(2);
-    quoted.filter(|name| !name.contains(' '))
-}
-
-/// The rows of a table with so many columns, without its head.
-fn rows(text: &str, columns: usize) -> Vec<Vec<String>> {
-    let lines = text.lines().filter(|line| line.starts_with("| "));
-    let cells = lines.map(|line| line.trim_matches('|').split('|').map(plain).collect());
-    let rows: Vec<Vec<String>> = cells.collect();
-    rows.into_iter()
-        .filter(|row| row.len() == columns)
-        .skip(1)
-        .collect()
-}
-
 /// The name that a line of a file of definitions declares.
 fn declared(line: &str) -> Option<&str> {
     let kinds = [
@@ -196,66 +119,6 @@ fn the_way_from_the_rules_leads_to_every_definition() {
     }
 }
 
-/// A heading as a link names it.
-fn anchor(heading: &str) -> String {
-    let text = heading.trim_start_matches('#').trim().to_lowercase();
-    let kept = text
-        .chars()
-        .filter(|&sign| sign.is_alphanumeric() || " -_".contains(sign));
-    kept.collect::<String>().replace(' ', "-")
-}
-
-fn assert_leads(from: &Path, link: &str) {
-    let (file, place) = link.split_once('#').unwrap_or((link, ""));
-    let target = match file {
-        "" => from.to_path_buf(),
-        _ => from.parent().expect("a page is in a folder").join(file),
-    };
-    assert!(target.exists(), "{}: {link}", from.display());
-    if !place.is_empty() {
-        let text = read(&target);
-        let mut headings = text
-            .lines()
-            .filter(|line| line.starts_with('#'))
-            .map(anchor);
-        assert!(
-            headings.any(|heading| heading == place),
-            "{}: {link}",
-            from.display()
-        );
-    }
-}
-
-#[test]
-fn every_link_leads_somewhere() {
-    let mut pages = vec![root().join("README.md"), root().join("CHANGELOG.md")];
-    files(&root().join("docs"), &mut pages);
-    pages.retain(|path| path.extension().map_or(false, |kind| kind == "md"));
-    let mut links = 0;
-    for path in &pages {
-        for part in read(path).split("](").skip(1) {
-            let link = part.split(')').next().expect("a part before the end");
-            if !link.starts_with("http") {
-                assert_leads(path, link);
-                links += 1;
-            }
-        }
-    }
-    assert!(links > 40, "{links}");
-}
-
-#[test]
-fn no_page_needs_a_document_that_is_not_here() {
-    let words = ["ocument 0", "the paper"];
-    for path in texts() {
-        let text = read(&path);
-        for word in words {
-            let here = path.ends_with("tests/documents.rs");
-            assert!(here || !text.contains(word), "{}: {word}", path.display());
-        }
-    }
-}
-
 #[test]
 fn the_table_of_the_rules_is_the_formulas() {
     let table = rows(&sections()["2.3"], 7);
@@ -271,16 +134,9 @@ fn the_table_of_the_rules_is_the_formulas() {
     }
 }
 
-/// The blocks of text of a section, without what stands beside their digits.
-fn blocks(section: &str) -> Vec<String> {
-    let fenced = section.split("```text\n").skip(1);
-    let blocks = fenced.map(|block| block.split("```").next().expect("a part before the end"));
-    blocks.map(String::from).collect()
-}
-
 #[test]
 fn the_example_of_the_rules_is_the_file() {
-    let blocks = blocks(&sections()["11.6"]);
+    let blocks = fenced(&sections()["11.6"], "text");
     assert_eq!(blocks.len(), 2);
     let (input, output) = (&blocks[0], &blocks[1]);
     let mut lines: Vec<String> = Vec::new();
