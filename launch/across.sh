@@ -1,7 +1,7 @@
 # How Rust programs for x86-64 are built and run on another machine, with the packages that .ci/host-tests installs there. To be
 # sourced.
 
-# Debian's own compiler: another Rust may stand first on PATH, without x86-64.
+# Debian's own compiler: another Rust may be first on the PATH, without x86-64.
 PATH=/usr/bin:$PATH
 export PATH RUSTC=/usr/bin/rustc
 export CARGO_TARGET_X86_64_UNKNOWN_LINUX_GNU_LINKER=x86_64-linux-gnu-gcc

@@ -1,20 +1,20 @@
-# What is put below a PREFIX and taken away again. To be sourced by the launcher. The pkg-config file is the record of an
+# What is installed below a PREFIX and removed again. To be sourced by the launcher. The pkg-config file is the record of an
 # install: a comment in it names the files that were put there, and another the folders that were made for them.
 
 record=lib/pkgconfig/tsendurkho.pc
 files="bin/blockrun include/tsendurkho.h lib/libtsendurkho.a $record"
 
-# Sets `prefix`, which has to stand in a pkg-config file as it is, and `place`, the folder that it is for now.
+# Sets `prefix`, which goes into the pkg-config file as it is, and `place`, the folder below which the files go now.
 below() { # COMMAND [PREFIX]
     prefix=${2-/usr/local}
     case $prefix in
     '') wrong "$1" "PREFIX is empty" ;;
-    *[!A-Za-z0-9/._+-]*) wrong "$1" "PREFIX may have letters, digits and / . _ + - alone: '$prefix'" ;;
+    *[!A-Za-z0-9/._+-]*) wrong "$1" "PREFIX may have only letters, digits and / . _ + -: '$prefix'" ;;
     /*) ;;
     *) wrong "$1" "PREFIX has to begin with /: '$prefix'" ;;
     esac
     place=${DESTDIR:-}$prefix
-    [ -d "$place" ] || [ ! -e "$place" ] || wrong "$1" "PREFIX is no folder: '$prefix'"
+    [ -d "$place" ] || [ ! -e "$place" ] || wrong "$1" "PREFIX is not a folder: '$prefix'"
 }
 
 # What the record names, if there is one.
@@ -22,7 +22,7 @@ recorded() { # files put | folders made
     [ ! -f "$place/$record" ] || sed -n "s/^# $1 by install: //p" "$place/$record"
 }
 
-# The record is written first, so that an install that is broken off can be taken away too.
+# The record is written first, so that an interrupted install can be removed too.
 install_below() {
     provide "$program" "$archive"
     made=$(recorded 'folders made')
@@ -47,13 +47,13 @@ write_record() {
     mv "$place/$record.new" "$place/$record"
 }
 
-# The record goes last, so that what was broken off can be done again.
+# The record goes last, so that an interrupted uninstall can be done again.
 uninstall_below() {
     put=$(recorded 'files put')
     made=$(recorded 'folders made')
-    [ -n "$put" ] || fail "no install is recorded in '$place/$record', and nothing is removed"
+    [ -n "$put" ] || fail "no install is recorded in '$place/$record', so nothing is removed"
     case " $put $made" in
-    *' /'* | *..* | *[!A-Za-z0-9/._+\ -]*) fail "the record '$place/$record' is damaged, and nothing is removed" ;;
+    *' /'* | *..* | *[!A-Za-z0-9/._+\ -]*) fail "the record '$place/$record' is damaged, so nothing is removed" ;;
     esac
     for file in $put; do
         [ "$file" = "$record" ] || rm -f "$place/$file"

@@ -1,9 +1,9 @@
-# The run program and the archive, proved and built where they are not. To be sourced by the launcher.
+# Proves and builds the run program and the archive if they are not up to date. To be sourced by the launcher.
 #
-# rt keeps what it has proved, and asking it is cheap where nothing changed; but it does not see that a file it made is gone,
-# two of it in one folder spoil each other's notes, and it builds an archive anew each time. So target/made has for each of
-# the two the sums of the sources that it was made from and of itself, written when it stood there whole: what has other sums
-# now is made anew. A build that was broken off leaves no such note.
+# rt keeps what it has proved, and asking it is cheap if nothing changed; but it does not see that a file it made is gone, two
+# runs of it in one folder spoil each other's notes, and it builds an archive again each time. So target/made has, for each of
+# the two products, the sums of its sources and of itself, written when it was complete: a product whose sums differ is built
+# again. An interrupted build leaves no such note.
 
 program=target/bin/blockrun
 archive=target/staticlib/libtsendurkho.a
@@ -23,7 +23,7 @@ not_made() { # PRODUCT...
     done
 }
 
-# Makes what is named and is not made of these sources. No product has a space in its name.
+# Makes those products that were not made from these sources. No product has a space in its name.
 provide() { # PRODUCT...
     missing=$(not_made "$@")
     [ -n "$missing" ] || return 0
@@ -58,7 +58,7 @@ crate_of() { # PRODUCT
     [ "$1" = "$program" ] && echo blockrun || echo tsendurkho
 }
 
-# Others who build here are waited for, and so are the provers that a build which was broken off has left running.
+# Waits for other builds here, and for provers that an interrupted build has left running.
 wait_for_others() {
     exec 9<"$root"
     if command -v flock >/dev/null && ! flock -n 9; then
@@ -67,7 +67,7 @@ wait_for_others() {
     fi
 }
 
-# On a terminal, a line that is written over later.
+# On a terminal, a line that is overwritten later.
 announce() { # TEXT
     if [ -t 2 ]; then
         printf '\r\033[Ktsendurkho: %s' "$1" >&2
@@ -90,7 +90,7 @@ kept_crates() {
     done
 }
 
-# rt ends with 2 where it cannot read what it made before: then it makes that anew, once.
+# rt ends with 2 if it cannot read what it made before: then it makes that again, once.
 build() { # PRODUCT
     [ -f "$root/$program" ] || rm -f "$root/target/stamp/blockrun"
     status=0

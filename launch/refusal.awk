@@ -1,6 +1,6 @@
 # A refusal of the run program in words. `report` is the line that it printed: ffff, the line's number and the refusal's.
-# Where the run file can be read again, its line 1 and the refused line come in here, each as the word `line` and then its
-# bytes as decimal numbers, of which there are `most` at most. Where they do not show what was wrong, or nothing came in,
+# If the run file can be read again, its line 1 and the refused line come in here, each as the word `line` and then its
+# bytes as decimal numbers, at most `most` of them. If they do not show what was wrong, or nothing came in,
 # the words are those of the refusal itself.
 
 $1 == "line" { part++; next }
@@ -24,7 +24,7 @@ function meant() {
     if (refusal == 1) return "n has to be from 1 to 16"
     if (refusal == 2) return "f has to be from 0 to 5, and 3f below n"
     if (refusal == 3) return "c has to be from 2 to 65535"
-    if (refusal == 7) return "the broken set may name f cards at most, each below n"
+    if (refusal == 7) return "the broken set may name at most f cards, each below n"
     if (refusal == 10)
         return (number < 3 ? "it is missing, or it has" : "it has") " a wrong length or a character that is none of 0-9, a-f"
     return number > 65536 ? after_the_last() : "beat " wanted_beat() " is wanted"
@@ -80,7 +80,7 @@ function wrong_text(    wanted, place, returns, found) {
     return found (ended[2] || size[2] > most ? "" : ", and the file ends there")
 }
 
-function missing() { return "it is missing, and a run file has two lines at least" }
+function missing() { return "it is missing, and a run file has at least two lines" }
 function ask_of_returns() { return "; does the file end its lines with CR LF?" }
 function characters(count) { return count (count == 1 ? " character" : " characters") }
 
@@ -91,7 +91,7 @@ function character(place,    code) {
     return sprintf("character %d is the byte 0x%02x, which is none of 0-9, a-f", place, code)
 }
 
-# The place of the first character of the line that is no digit, or 0.
+# The place of the first character of the line that is not a digit, or 0.
 function first_wrong(    place) {
     for (place = 1; place <= size[2]; place++) if (!is_digit(byte[2, place])) return place
     return 0

@@ -34,7 +34,7 @@ say_report() { # REPORT [FILE]
     esac
 }
 
-# The longest line of a run file has 8,004 characters: of a line far longer than that, the length is not counted out.
+# The longest line of a run file has 8,004 characters: of a line far longer than that, not all characters are counted.
 longest=100000
 
 in_words() { # REFUSAL FILE
@@ -61,8 +61,8 @@ is_long() { # FILE
     [ -f "$1" ] && [ "$(wc -c <"$1")" -gt 1000000 ]
 }
 
-# Says how much has been read of a file of so many bytes that is open as 4. The place in a file is common to all who have it
-# from one opening. The next line of output, which is longer, writes over it.
+# Says how much has been read of the file that is open as 4. All who share one opening of a file share the place in it. The
+# next line of output, which is longer, overwrites this.
 say_place() { # BYTES
     read -r _ place </proc/self/fdinfo/4
     printf '%3d %%\r' $((100 * place / $1)) >&2

@@ -13,7 +13,7 @@ END {
     print "about " (minutes > 1 ? minutes " minutes" : "1 minute")
 }
 
-# A crate is proved anew if one is that it depends on.
+# A crate is proved again if one that it depends on is.
 function is_to_be_proved(crate,    parts, count, i) {
     if (crate in known) return known[crate]
     if (!(crate in depends)) return 0

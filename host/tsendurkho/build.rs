@@ -1,5 +1,5 @@
 //! Finds the proved archive and links it: where an environment variable says, in the checkout,
-//! or where pkg-config knows it as installed, the first of these that there is.
+//! or where pkg-config knows it as installed: the first of these that exists.
 
 use std::env;
 use std::path::{Path, PathBuf};

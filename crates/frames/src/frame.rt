@@ -57,7 +57,7 @@ pub fn read_words(line: &[u8], words: usize, buffer: &mut [u16])
     words_at(line, 4, &mut buffer[..words]);
 }
 
-// "Line 2 with another beat than 0000 is 11." (RULES 11.5)
+// "Line 2 with a beat other than 0000 is 11." (RULES 11.5)
 pub fn start_line_refusal(h: Header, line: &[u8]) -> u32
     requires { ⌜ headerTests (said h) ≡ 0 ⌝ }
     ensures { λ r. ⌜ r ≡ startLineRefusal (said h) (now (line .entry)) ⌝ }

@@ -31,7 +31,7 @@ pub record Parameters : Type 0 where
   pub words : ℕ
   pub beats : ℕ
 
--- RULES 2.3: "With f = 0 no group is split: the four middle entries are answered as 0."
+-- RULES 2.3: "With f = 0 no group is split: the four middle entries are given as 0."
 unfoldable pub rowOf : ℕ → Parameters
 rowOf zero = record { turn = 0; c0 = 0; c1 = 0; restart = 0; words = recordWords 0; beats = settleBeats 0 }
 rowOf (suc f) =

@@ -33,7 +33,7 @@ abbrev pub halfOf : ℕ → ℕ → ℕ
 halfOf n card = cond (ltb card (n / 2)) 0 1
 
 -- What is heard: the word j of the sender u. Of a half it is what is heard from the half's first card on, past the eight
--- words of the group around it. RULES 1: "Cards are numbered from 0 within the group that is spoken of."
+-- words of the group around it. RULES 1: "Cards are numbered from 0 within the group in question."
 -- RULES 4.1: "the outermost group first"
 abbrev pub heardFrom : (ℕ → ℕ → ℕ) → ℕ → ℕ → ℕ → ℕ → ℕ
 heardFrom hear first base u j = hear (first + u) (base + j)

@@ -70,6 +70,6 @@ readRefusal n f text out =
     (given 6 (wrong out (recordWords f))
     (given 10 (not (wellFormed (4 * recordWords f) text)) 0))
 
--- RULES 10.3: "a second call answers the refusal, 10 if there is no such line and otherwise 0"
+-- RULES 10.3: "A second call returns the refusal: 10 if there is no such line, otherwise 0."
 abbrev pub lineRefusal : ℕ → List ℕ → ℕ
 lineRefusal k text = given 10 (not (hasLine k text)) 0

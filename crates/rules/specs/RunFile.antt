@@ -40,7 +40,7 @@ frameDigits words = 4 + 4 * words
 abbrev pub beatOf : List ℕ → ℕ
 beatOf line = numberAt line 0 4
 
--- RULES 11.2: "The beat 0000, then the n records that the cards start with."; RULES 11.5: "Line 2 with another beat than 0000 is 11."
+-- RULES 11.2: "The beat 0000, then the n records that the cards start with."; RULES 11.5: "Line 2 with a beat other than 0000 is 11."
 abbrev pub startWords : Header → ℕ
 startWords h = h .n * recordWords (h .f)
 

@@ -66,7 +66,7 @@ linesOf (ch ∷ rest) = inFront ch (linesOf rest)
 unfoldable pub hasLine : ℕ → List ℕ → Bool
 hasLine k text = leb 1 k && leb k (length (linesOf text))
 
--- line k. RULES 10.3: "and an empty part if there is no such line"
+-- line k. RULES 10.3: "if there is no such line, it is an empty part"
 unfoldable pub lineAt : ℕ → List ℕ → List ℕ
 lineAt k text = cond (hasLine k text) (getD (linesOf text) (k - 1) []) []
 
@@ -75,8 +75,8 @@ unfoldable pub spanOf : List (List ℕ) → ℕ
 spanOf [] = 0
 spanOf (line ∷ others) = length line + 1 + spanOf others
 
--- where line k begins, behind the lines before it. RULES 10.3: "that part of the caller's own text, and an empty part if there is
--- no such line, which begins where the text does"
+-- where line k begins, after the lines before it. RULES 10.3: "a part of the caller's own text; if there is no such line, it is
+-- an empty part that begins where the text does"
 unfoldable pub startOf : ℕ → List ℕ → ℕ
 startOf k text = cond (hasLine k text) (spanOf (take (k - 1) (linesOf text))) 0
 

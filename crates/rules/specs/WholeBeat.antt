@@ -21,7 +21,7 @@ brokenBelow set v = countBelow v (isBroken set)
 unfoldable pub badSet : ℕ → ℕ → ℕ → Bool
 badSet n f set = leb (2 ^ n) set || ltb f (brokenBelow set n)
 
--- how many words the broken cards send. RULES 6: "They are n·(broken)·W words."
+-- how many words the broken cards send. RULES 6: "There are n·(broken)·W of them"
 abbrev pub sentWords : ℕ → ℕ → ℕ → ℕ
 sentWords n f set = n * (brokenBelow set n) * recordWords f
 

@@ -72,8 +72,8 @@ pub fn read_record(n: u32, f: u32, text: &[u8], out: &mut [u16]) -> u32
     0
 }
 
-// Line k: "that part of the caller's own text, and an empty part if there is no such line, which begins where the text does"
-// (RULES 10.3). The contract says what the part holds and where it begins.
+// RULES 10.3: line k, "as a part of the caller's own text; if there is no such line, it is an empty part that begins where the text
+// does." The contract says what the part holds and where it begins.
 pub fn line(text: &[u8], k: u32) -> &[u8]
     ensures { λ r. ⌜ (now r ≡ lineAt k (now (text .entry)))
         × (ptr r ≡ (ptr (text .entry) .0, startOf k (now (text .entry)) + ptr (text .entry) .1)) ⌝ }
@@ -84,7 +84,7 @@ pub fn line(text: &[u8], k: u32) -> &[u8]
     &text[start..end]
 }
 
-// "10 if there is no such line and otherwise 0" (RULES 10.3).
+// "10 if there is no such line, otherwise 0" (RULES 10.3).
 pub fn line_refusal(text: &[u8], k: u32) -> u32
     ensures { λ r. ⌜ r ≡ lineRefusal k (now (text .entry)) ⌝ }
 {

@@ -105,7 +105,7 @@ fn nothing_is_removed(place: &Path, said: &str) {
 fn without_a_record_nothing_is_removed() {
     let place = scratch("install-no-record");
     let said = format!(
-        "no install is recorded in '{}', and nothing is removed",
+        "no install is recorded in '{}', so nothing is removed",
         place.join(RECORD).display()
     );
     nothing_is_removed(&place, &said);
@@ -130,7 +130,7 @@ fn a_damaged_record_removes_nothing() {
     let place = scratch("install-damaged");
     let inner = place.join("prefix");
     let said = format!(
-        "the record '{}' is damaged, and nothing is removed",
+        "the record '{}' is damaged, so nothing is removed",
         inner.join(RECORD).display()
     );
     fs::write(place.join("theirs"), "theirs").expect("a file can be written");

@@ -3,11 +3,11 @@
 
 use std::fs;
 use std::path::PathBuf;
-use std::process::{Command, Output, Stdio};
+use std::process::{Command, Output};
 
 use generate::runfiles::{damaged, Damage, RunFile};
 use generate::{Random, Shape};
-use program::{launched, launcher, parts, refusal_in, scratch, wanted, word};
+use program::{launched, launcher, parts, refusal_in, scratch, started, wanted, word};
 
 /// Two cards without a broken one, and their start.
 const HEADER: &str = "020000030000\n";
@@ -55,7 +55,7 @@ fn numbers_of_line_1() {
 
 #[test]
 fn lengths_and_missing_lines() {
-    let two = "it is missing, and a run file has two lines at least";
+    let two = "it is missing, and a run file has at least two lines";
     let empty_third = format!("{HEADER}{START}\n");
     let cut = format!("{HEADER}{START}0001\n000");
     // A record of four cards with f = 1 has 9 words, so line 2 has 1 + 36, and so has a beat with one broken card.
@@ -168,7 +168,7 @@ const UNSEEN: [(&str, &str); 7] = [
     ),
     (
         "040100080010\n",
-        "line 1 refused (7): the broken set may name f cards at most, each below n",
+        "line 1 refused (7): the broken set may name at most f cards, each below n",
     ),
     (
         "",
@@ -190,13 +190,7 @@ const UNSEEN: [(&str, &str); 7] = [
 fn an_input_that_is_read_once() {
     for (text, said) in UNSEEN {
         for words in [&["run"][..], &["run", "/dev/stdin"]] {
-            let mut child = Command::new(launcher())
-                .args(words)
-                .stdin(Stdio::piped())
-                .stdout(Stdio::piped())
-                .stderr(Stdio::piped())
-                .spawn()
-                .expect("the launcher starts");
+            let mut child = started(words);
             let mut input = child.stdin.take().expect("its input is a pipe");
             assert!(program::send(&mut input, text.as_bytes()));
             drop(input);

@@ -143,11 +143,11 @@ fn a_prefix_that_there_cannot_be() {
         refused(&[command, "usr"], "PREFIX has to begin with /: 'usr'");
         refused(
             &[command, "/a b"],
-            "PREFIX may have letters, digits and / . _ + - alone: '/a b'",
+            "PREFIX may have only letters, digits and / . _ + -: '/a b'",
         );
         refused(
             &[command, word(&file)],
-            &format!("PREFIX is no folder: '{}'", file.display()),
+            &format!("PREFIX is not a folder: '{}'", file.display()),
         );
     }
 }

@@ -25,7 +25,7 @@ pub struct Parameters {
 pub fn parameters(n: u32, f: u32) -> Result<Parameters, Refusal> {
     check_cards(n, f)?;
     let f = f as usize;
-    // RULES 2.3: with f = 0 "the four middle entries are answered as 0."
+    // RULES 2.3: with f = 0 "the four middle entries are given as 0."
     let if_split = |entry: u16| if f == 0 { 0 } else { entry };
     Ok(Parameters {
         t: if_split(t(f)),

@@ -53,16 +53,16 @@ impl fmt::Display for Refusal {
     fn fmt(&self, formatter: &mut fmt::Formatter<'_>) -> fmt::Result {
         formatter.write_str(match self {
             Refusal::CardCount => "n is 0 or above 16",
-            Refusal::BrokenAllowance => "f above 5, or 3f >= n",
-            Refusal::Modulus => "c below 2 or above 65,535",
-            Refusal::CardNumber => "card number at or above n",
-            Refusal::Records => "records not the needed words",
-            Refusal::OutputLength => "output buffer not exactly the needed length",
-            Refusal::BrokenSet => "broken set names a card at or above n, or more than f cards",
-            Refusal::BrokenWords => "broken cards' words not n·(broken)·W",
-            Refusal::LagInput => "a lag input at or above c",
-            Refusal::Text => "text with a wrong length or character, or a wanted line missing",
-            Refusal::BeatNumber => "beat number not the next",
+            Refusal::BrokenAllowance => "f is above 5, or 3f is n or more",
+            Refusal::Modulus => "c is below 2 or above 65,535",
+            Refusal::CardNumber => "the card number is n or above",
+            Refusal::Records => "the records do not have the needed number of words",
+            Refusal::OutputLength => "the output buffer does not have exactly the needed length",
+            Refusal::BrokenSet => "the broken set names a card at or above n, or more than f cards",
+            Refusal::BrokenWords => "the number of the broken cards' words is not n·(broken)·W",
+            Refusal::LagInput => "an input of a lag is c or above",
+            Refusal::Text => "a text has a wrong length or character, or a wanted line is missing",
+            Refusal::BeatNumber => "the beat number is not the next one",
         })
     }
 }

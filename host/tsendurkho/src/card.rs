@@ -3,7 +3,7 @@ use crate::Rack;
 /// A card of a rack, from [`Rack::card`] or [`Rack::cards`].
 ///
 /// It belongs to the racks that are equal to the one that made it: the same n, f and c. Any
-/// other rack refuses it by 4, whatever its number, so that a card of a wrong rack is never
+/// other rack refuses it with 4, whatever its number, so a card of the wrong rack is never
 /// stepped unnoticed.
 ///
 /// ```

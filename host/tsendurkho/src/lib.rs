@@ -2,9 +2,9 @@
 //! `libtsendurkho.a`. docs/HOST.md leads to a first program, and docs/RULES.md has the rules.
 //!
 //! Up to sixteen cards share a beat that carries no number. On every beat each card hears a
-//! record from every card, its own included, and makes of them its next record. The sound cards
-//! come to show one same count modulo c, one more on each beat, though up to f of the n cards
-//! are broken.
+//! record from every card, its own included, and makes its next record from them. The sound
+//! cards come to show the same count modulo c, one more on each beat, even if up to f of the n
+//! cards are broken.
 //!
 //! A record is W words ([`Rack::record_words`]), which RULES 4 describes. A card may start from
 //! any words at all.
@@ -23,7 +23,7 @@
 //! # Ok::<(), tsendurkho::Refusal>(())
 //! ```
 //!
-//! What the archive's functions answer is proved for all inputs, and every refusal but that of
+//! What the archive's functions return is proved for all inputs, and every refusal but that of
 //! [`Rack::shown_count`] is the archive's own. [`Rack::shown_count`], [`record_words`] and
 //! [`settle_beats`] are written here and tested.
 

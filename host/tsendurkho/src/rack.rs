@@ -1,6 +1,6 @@
 use crate::{archive, parameters, Card, Refusal};
 
-/// n, f and c, each by its name, so that none can stand in another's place.
+/// n, f and c, each by its name, so that none can be taken for another.
 #[derive(Clone, Copy, Debug, PartialEq, Eq, Hash)]
 pub struct Shape {
     /// n, how many cards there are.
@@ -20,7 +20,7 @@ pub struct Rack {
 impl Rack {
     /// A rack of this shape. The proved archive itself tests it, once.
     ///
-    /// Refused by 1, 2 and 3.
+    /// Refusals: 1, 2, 3.
     ///
     /// ```
     /// use tsendurkho::{Rack, Refusal, Shape};
@@ -35,14 +35,14 @@ impl Rack {
         rack.accepts(0).map(|()| rack)
     }
 
-    /// The n, f and c that it was made of.
+    /// The n, f and c that it was made from.
     pub fn shape(&self) -> Shape {
         self.shape
     }
 
     /// The card of this number. The proved archive itself tests it.
     ///
-    /// Refused by 4.
+    /// Refusal: 4.
     pub fn card(&self, number: u32) -> Result<Card, Refusal> {
         let rack = *self;
         self.accepts(number).map(|()| Card { rack, number })
@@ -67,7 +67,7 @@ impl Rack {
         parameters::record_words(self.shape.broken)
     }
 
-    /// T(f), the beats after which all sound cards show one same count, and one more on each
+    /// T(f), the beats after which all sound cards show the same count, and one more on each
     /// later beat, if at most f cards are broken (RULES 13).
     pub fn settle_beats(&self) -> u64 {
         parameters::settle_beats(self.shape.broken)
@@ -76,7 +76,7 @@ impl Rack {
     /// One card's step (RULES 5): its next record, from the n records that it hears, card 0
     /// first. Its own slot holds its own record.
     ///
-    /// Refused by 4 and 5.
+    /// Refusals: 4, 5.
     pub fn step(&self, card: Card, heard: &[u16]) -> Result<Vec<u16>, Refusal> {
         let mut next = vec![0; self.record_words()];
         self.step_into(card, heard, &mut next)?;
@@ -86,7 +86,7 @@ impl Rack {
     /// The same into a buffer of W words, without allocating or copying. A refused call leaves
     /// the buffer as it was.
     ///
-    /// Refused by 4, 5 and 6.
+    /// Refusals: 4, 5, 6.
     pub fn step_into(&self, card: Card, heard: &[u16], next: &mut [u16]) -> Result<(), Refusal> {
         let number = self.number_of(card);
         Refusal::answered(archive::step_words(self.shape, number, heard, next))
@@ -94,16 +94,16 @@ impl Rack {
 
     /// The same on bytes, two for each word, low byte first (RULES 10.1).
     ///
-    /// Refused by 4, 5 and 6. An odd number of bytes is a wrong length.
+    /// Refusals: 4, 5, 6. An odd number of bytes is a wrong length.
     pub fn step_bytes(&self, card: Card, heard: &[u8], next: &mut [u8]) -> Result<(), Refusal> {
         let number = self.number_of(card);
         Refusal::answered(archive::step(self.shape, number, heard, next))
     }
 
-    /// The count that a card with this record shows, if any: the a of the outermost group, none
-    /// where that is c or above (RULES 7 and 4.2).
+    /// The count that a card with this record shows, if any: the a of the outermost group, or none
+    /// if that is c or above (RULES 7 and 4.2).
     ///
-    /// Refused by 5.
+    /// Refusal: 5.
     ///
     /// ```
     /// # use tsendurkho::{Rack, Refusal, Shape, NONE};
@@ -118,7 +118,7 @@ impl Rack {
         if record.len() != self.record_words() {
             return Err(Refusal::Records);
         }
-        // In a split group a stands behind m0 m1 M0 M1 w0 w1; otherwise it is alone.
+        // In a split group a comes after m0 m1 M0 M1 w0 w1; otherwise it is alone.
         let a = record[if self.shape.broken == 0 { 0 } else { 6 }];
         Ok(Some(a).filter(|&count| u32::from(count) < self.shape.modulus))
     }
@@ -126,7 +126,7 @@ impl Rack {
     /// The lag of x against y: the number congruent to x - y modulo c that is above -c/2 and at
     /// most c/2 (RULES 8).
     ///
-    /// Refused by 9.
+    /// Refusal: 9.
     ///
     /// ```
     /// # use tsendurkho::{Rack, Refusal, Shape};
@@ -143,7 +143,8 @@ impl Rack {
     }
 
     /// Whether the archive accepts the shape and this card number: given no records, which is
-    /// never the needed number, it refuses them, 5, only behind 1, 2, 3 and 4 (RULES 9.1).
+    /// never the needed number, it refuses them with 5, but only after testing 1, 2, 3 and 4
+    /// (RULES 9.1).
     fn accepts(&self, number: u32) -> Result<(), Refusal> {
         match Refusal::answered(archive::step(self.shape, number, &[], &mut [])) {
             Err(Refusal::Records) => Ok(()),
@@ -152,7 +153,7 @@ impl Rack {
         }
     }
 
-    /// A card's number, or n, which the archive refuses, where it is no card of this rack.
+    /// A card's number, or n, which the archive refuses, if the card is not of this rack.
     fn number_of(&self, card: Card) -> u32 {
         if card.rack == *self {
             card.number

@@ -2,22 +2,22 @@ use std::error::Error;
 use std::fmt;
 
 /// Why a call is refused. The values are the numbers of RULES 9.1, and each is given exactly when
-/// its words hold; a call gives the first that applies, in this order, and changes nothing.
+/// its words hold; a call returns the first that applies, in this order, and changes nothing.
 #[derive(Clone, Copy, Debug, PartialEq, Eq, Hash)]
 pub enum Refusal {
     /// n is 0 or above 16
     Cards = 1,
-    /// f above 5, or 3f >= n
+    /// f is above 5, or 3f is n or more
     Broken = 2,
-    /// c below 2 or above 65,535
+    /// c is below 2 or above 65,535
     Modulus = 3,
-    /// card number at or above n, or a card of another rack
+    /// the card number is n or above, or the card is of another rack
     Card = 4,
-    /// records not the needed words
+    /// the records do not have the needed number of words
     Records = 5,
-    /// output buffer not exactly the needed length
+    /// the output buffer does not have exactly the needed length
     Output = 6,
-    /// a lag input at or above c
+    /// an input of a lag is c or above
     Lag = 9,
 }
 
@@ -47,12 +47,12 @@ impl fmt::Display for Refusal {
     fn fmt(&self, formatter: &mut fmt::Formatter<'_>) -> fmt::Result {
         formatter.write_str(match self {
             Refusal::Cards => "n is 0 or above 16",
-            Refusal::Broken => "f above 5, or 3f >= n",
-            Refusal::Modulus => "c below 2 or above 65,535",
-            Refusal::Card => "card number at or above n, or a card of another rack",
-            Refusal::Records => "records not the needed words",
-            Refusal::Output => "output buffer not exactly the needed length",
-            Refusal::Lag => "a lag input at or above c",
+            Refusal::Broken => "f is above 5, or 3f is n or more",
+            Refusal::Modulus => "c is below 2 or above 65,535",
+            Refusal::Card => "the card number is n or above, or the card is of another rack",
+            Refusal::Records => "the records do not have the needed number of words",
+            Refusal::Output => "the output buffer does not have exactly the needed length",
+            Refusal::Lag => "an input of a lag is c or above",
         })
     }
 }

@@ -200,6 +200,6 @@ fn a_step_that_makes_its_own_buffer_refuses_what_it_can_get_wrong() {
 #[test]
 fn refusals_say_why() {
     let refusal = rack(1, 0, 8).and_then(|rack| rack.lag(8, 0)).unwrap_err();
-    assert_eq!(refusal.to_string(), "a lag input at or above c");
+    assert_eq!(refusal.to_string(), "an input of a lag is c or above");
     assert_eq!(refusal.number(), 9);
 }
