@@ -1,4 +1,4 @@
--- One card's step is refused by lengths in words or in bytes: in units of which 1 or 2 make a word.
+-- The lengths that one card's step is refused by: in words or in bytes, `units` of which make a word.
 use Prim.Native.Nat.{ℕ, _*_}
 use lib.Dec.{leb}
 use Rattle.rules.specs.Parameters.{recordWords}

@@ -9,7 +9,7 @@ ghost use Rattle.rules.specs.Calls.{stepOut};
 ghost use Rattle.card.specs.Answers.{Shows};
 ghost use Rattle.card.specs.Lengths.{refusalIn};
 
-// Lengths in words, each a unit.
+// Lengths in words, one to a word.
 const WORDS: u8 = 1;
 
 // All words 0.
@@ -23,7 +23,7 @@ fn clear(out: &mut [u16])
     }
 }
 
-// Refusals 1, 2, 3, 4, 5, 6, of lengths in units: so many make a word.
+// Refusals 1, 2, 3, 4, 5, 6. The lengths are in words or in bytes: `units` of them make a word.
 pub fn step_refusal(n: u32, f: u32, c: u32, card: u32, units: u8, records: usize, out: usize) -> u32
     ensures { λ r. ⌜ r ≡ refusalIn units n f c card records out ⌝ }
 {

@@ -4,7 +4,7 @@ use mathlib.Core.Logic.{⊎-elim}
 use mathlib.Core.List.{List}
 use Prim.Native.Nat.{ℕ, _+_, _*_, _≤_, _<_}
 use native.Mathlib.Omega.{arith}
-use lib.Dec.{eqb, leb}
+use lib.Dec.{leb}
 use lib.ListN.{length, getD, List·getD-eq-default}
 use borrow.Author.Tests.{eq-eqb}
 use Rattle.rules.specs.Parameters.{recordWords, badCards, badBroken, badModulus}
@@ -12,7 +12,7 @@ use Rattle.rules.specs.Counting.{tabulate}
 use Rattle.rules.specs.Groups.{heardIn, place}
 use Rattle.rules.specs.OneBeat.{nextRecord}
 use Rattle.rules.specs.Bytes.{wordAt, bytesOf}
-use Rattle.rules.specs.Refusals.{given, wrong, stepRefusal, stepBytesRefusal}
+use Rattle.rules.specs.Refusals.{wrong, stepRefusal, stepBytesRefusal}
 use Rattle.rules.specs.Calls.{stepOut, stepBytesOut}
 use Rattle.rules.proofs.Tests.{le-or-lt}
 use Rattle.rules.proofs.Lists.{tabulate-length, tabulate-at}

@@ -6,7 +6,7 @@ use std::env;
 use std::fs;
 use std::io::{ErrorKind, Write};
 use std::path::{Path, PathBuf};
-use std::process::{ChildStdin, Command, Output, Stdio};
+use std::process::{Child, ChildStdin, Command, Output, Stdio};
 use std::sync::Once;
 use std::thread;
 
@@ -60,15 +60,20 @@ pub fn send(input: &mut ChildStdin, piece: &[u8]) -> bool {
     }
 }
 
-/// What the program writes for an input that arrives in these pieces. How the launcher ends has to fit it.
-pub fn output_of(pieces: &[&[u8]]) -> Vec<u8> {
-    let mut child = Command::new(launcher())
-        .arg("run")
+/// The launcher with these words behind it, and pipes for its input and both of its outputs.
+pub fn started(words: &[&str]) -> Child {
+    Command::new(launcher())
+        .args(words)
         .stdin(Stdio::piped())
         .stdout(Stdio::piped())
         .stderr(Stdio::piped())
         .spawn()
-        .expect("the launcher starts");
+        .expect("the launcher starts")
+}
+
+/// What the program writes for an input that arrives in these pieces. How the launcher ends has to fit it.
+pub fn output_of(pieces: &[&[u8]]) -> Vec<u8> {
+    let mut child = started(&["run"]);
     let mut input = child.stdin.take().expect("its input is a pipe");
     let ended = thread::scope(|scope| {
         scope.spawn(move || pieces.iter().all(|piece| send(&mut input, piece)));

@@ -57,8 +57,15 @@ fn assert_ends(ended: Output, output: &[u8], reported: &str, status: i32) {
 /// What is reported of an input that ends too soon, by its right output: nothing where all of its lines are whole.
 fn cut_short(output: &[u8]) -> String {
     refusal_in(output).map_or_else(String::new, |(line, refusal)| {
-        let missing = if line < 3 { "it is missing, or it has" } else { "it has" };
-        format!("tsendurkho: line {line} refused ({refusal}): {missing} a wrong length or a character that is none of 0-9, a-f\n")
+        let missing = if line < 3 {
+            "it is missing, or it has"
+        } else {
+            "it has"
+        };
+        format!(
+            "tsendurkho: line {line} refused ({refusal}): {missing} a wrong length or a character \
+             that is none of 0-9, a-f\n"
+        )
     })
 }
 

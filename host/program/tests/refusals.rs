@@ -3,11 +3,11 @@
 
 use std::fs;
 use std::path::PathBuf;
-use std::process::{Command, Output, Stdio};
+use std::process::{Command, Output};
 
 use generate::runfiles::{damaged, Damage, RunFile};
 use generate::{Random, Shape};
-use program::{launched, launcher, parts, refusal_in, scratch, wanted, word};
+use program::{launched, launcher, parts, refusal_in, scratch, started, wanted, word};
 
 /// Two cards without a broken one, and their start.
 const HEADER: &str = "020000030000\n";
@@ -81,36 +81,48 @@ fn lengths_and_missing_lines() {
     );
 }
 
+/// What is said of a character, and of a line that is too long beside it.
+const NONE: &str = "which is none of 0-9, a-f";
+const LONG: &str = "characters where 12 are wanted";
+
 #[test]
 fn characters_that_are_no_digits() {
     let line_2 = |record: &str| format!("{HEADER}0000{record}\n");
+    let said_of_2 = |said: &str| format!("line 2 refused (10): {said}");
+    let other = said_of_2(&format!("character 7 is 'G', {NONE}"));
+    let nul = said_of_2(&format!("character 8 is the byte 0x00, {NONE}"));
+    let accent = format!("it has 13 {LONG}, and character 12 is the byte 0xc3, {NONE}");
+    let spaces = format!("it has 15 {LONG}, and character 3 is ' ', {NONE}");
+    let upper = said_of_2("character 8 is 'F', and digits are lower case");
     explained(
         "characters",
         &[
-            (&line_2("00G20001"), "line 2 refused (10): character 7 is 'G', which is none of 0-9, a-f"),
-            (&line_2("000F0001"), "line 2 refused (10): character 8 is 'F', and digits are lower case"),
-            (&line_2("000\x000001"), "line 2 refused (10): character 8 is the byte 0x00, which is none of 0-9, a-f"),
-            (&line_2("0002000é")[..], "line 2 refused (10): it has 13 characters where 12 are wanted, and character 12 is the byte 0xc3, which is none of 0-9, a-f"),
-            ("02 00 0003 0000\n", "line 1 refused (10): it has 15 characters where 12 are wanted, and character 3 is ' ', which is none of 0-9, a-f"),
+            (&line_2("00G20001"), &other),
+            (&line_2("000F0001"), &upper),
+            (&line_2("000\x000001"), &nul),
+            (&line_2("0002000é"), &said_of_2(&accent)),
+            (
+                "02 00 0003 0000\n",
+                &format!("line 1 refused (10): {spaces}"),
+            ),
         ],
     );
 }
 
 #[test]
 fn lines_that_end_with_a_carriage_return() {
-    let ask = "does the file end its lines with CR LF?";
+    let said_of_1 = |said: &str| {
+        format!("line 1 refused (10): {said}; does the file end its lines with CR LF?")
+    };
+    let alone = format!("it has 13 {LONG}");
+    let short = format!("character 12 is the byte 0x0d, {NONE}");
+    let spaces = format!("it has 16 {LONG}, and character 3 is ' ', {NONE}");
     explained(
         "returns",
         &[
-            ("020000030000\r\n", &format!("line 1 refused (10): it has 13 characters where 12 are wanted; {ask}")),
-            (
-                "02000003000\r\n",
-                &format!("line 1 refused (10): character 12 is the byte 0x0d, which is none of 0-9, a-f; {ask}"),
-            ),
-            (
-                "02 00 0003 0000\r\n",
-                &format!("line 1 refused (10): it has 16 characters where 12 are wanted, and character 3 is ' ', which is none of 0-9, a-f; {ask}"),
-            ),
+            ("020000030000\r\n", &said_of_1(&alone)),
+            ("02000003000\r\n", &said_of_1(&short)),
+            ("02 00 0003 0000\r\n", &said_of_1(&spaces)),
         ],
     );
 }
@@ -140,36 +152,74 @@ fn beats_out_of_order() {
     explained("last", &[(&after(&(beats + "ffff\n")), last)]);
 }
 
-/// What can be said of an input that cannot be read again, as a pipe.
+/// What can be said of a line that cannot be seen again: the text, and the words.
+const UNSEEN: [(&str, &str); 7] = [
+    (
+        "000000030000\n",
+        "line 1 refused (1): n has to be from 1 to 16",
+    ),
+    (
+        "060200030000\n",
+        "line 1 refused (2): f has to be from 0 to 5, and 3f below n",
+    ),
+    (
+        "040100010000\n",
+        "line 1 refused (3): c has to be from 2 to 65535",
+    ),
+    (
+        "040100080010\n",
+        "line 1 refused (7): the broken set may name at most f cards, each below n",
+    ),
+    (
+        "",
+        "line 1 refused (10): it is missing, or it has a wrong length or a character that is \
+         none of 0-9, a-f",
+    ),
+    (
+        "020000030000\n000000020001\n0\n",
+        "line 3 refused (10): it has a wrong length or a character that is none of 0-9, a-f",
+    ),
+    (
+        "020000030000\n000000020001\n0002\n",
+        "line 3 refused (11): beat 0001 is wanted",
+    ),
+];
+
+/// An input that cannot be read again, as a pipe.
 #[test]
 fn an_input_that_is_read_once() {
-    let cases = [
-        ("000000030000\n", "line 1 refused (1): n has to be from 1 to 16"),
-        ("060200030000\n", "line 1 refused (2): f has to be from 0 to 5, and 3f below n"),
-        ("040100010000\n", "line 1 refused (3): c has to be from 2 to 65535"),
-        ("040100080010\n", "line 1 refused (7): the broken set may name at most f cards, each below n"),
-        ("", "line 1 refused (10): it is missing, or it has a wrong length or a character that is none of 0-9, a-f"),
-        (
-            "020000030000\n000000020001\n0\n",
-            "line 3 refused (10): it has a wrong length or a character that is none of 0-9, a-f",
-        ),
-        ("020000030000\n000000020001\n0002\n", "line 3 refused (11): beat 0001 is wanted"),
-    ];
-    for (text, said) in cases {
+    for (text, said) in UNSEEN {
         for words in [&["run"][..], &["run", "/dev/stdin"]] {
-            let mut child = Command::new(launcher())
-                .args(words)
-                .stdin(Stdio::piped())
-                .stdout(Stdio::piped())
-                .stderr(Stdio::piped())
-                .spawn()
-                .expect("the launcher starts");
+            let mut child = started(words);
             let mut input = child.stdin.take().expect("its input is a pipe");
             assert!(program::send(&mut input, text.as_bytes()));
             drop(input);
             let ended = child.wait_with_output().expect("the launcher ends");
             assert_said(&ended, text.as_bytes(), said);
         }
+    }
+}
+
+/// A file that is good by the time it is read again shows nothing of what was wrong.
+#[test]
+fn a_file_that_has_changed_since() {
+    let line = |text: &str| {
+        let bytes = text.trim_end().bytes().map(|byte| byte.to_string());
+        format!("line\n{}\n", bytes.collect::<Vec<_>>().join(" "))
+    };
+    for (text, said) in UNSEEN {
+        let report = String::from_utf8(wanted(text.as_bytes())).expect("hexadecimal digits");
+        let report = report.lines().last().expect("a refusal");
+        let beat = [HEADER, START, "0001"][(refusal_in(report.as_bytes()).unwrap().0 - 1) as usize];
+        let lines = scratch("changed").join("lines");
+        fs::write(&lines, line(HEADER) + &line(beat)).expect("a file can be written");
+        let words = Command::new("awk")
+            .args(["-v", &format!("report={report}"), "-v", "most=100000", "-f"])
+            .arg(program::root().join("launch/refusal.awk"))
+            .arg(lines)
+            .output()
+            .expect("awk starts");
+        assert_eq!(parts(&words), (format!("{said}\n"), String::new(), Some(0)));
     }
 }
 

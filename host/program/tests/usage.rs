@@ -166,8 +166,8 @@ fn bare(place: &Path, words: &[&str]) -> Output {
 
 fn bare_copy(name: &str) -> PathBuf {
     let place = scratch(name);
-    let copy = "cp -R tsendurkho launch VERSION \"$1\" && mkdir \"$1/bin\" && for tool in sh awk cat dirname paste sed; do \
-                ln -s \"$(command -v $tool)\" \"$1/bin\"; done";
+    let copy = "cp -R tsendurkho launch VERSION \"$1\" && mkdir \"$1/bin\" && \
+                for tool in sh awk cat dirname paste sed; do ln -s \"$(command -v $tool)\" \"$1/bin\"; done";
     let copied = Command::new("sh")
         .args(["-c", copy, "sh", word(&place)])
         .current_dir(root())
@@ -248,9 +248,16 @@ fn a_missing_tool() {
     let place = bare_copy("missing-tools");
     for (words, said) in [
         (&["simulate"][..], "tsendurkho: simulate needs cargo\n"),
-        (&["build"], "tsendurkho: the run program and the archive cannot be proved and built: the Rattle kit's rt is not on the PATH\n"),
+        (
+            &["build"],
+            "tsendurkho: the run program and the archive cannot be proved and built: \
+             the Rattle kit's rt is not on the PATH\n",
+        ),
     ] {
-        assert_eq!(parts(&bare(&place, words)), (String::new(), said.to_string(), Some(1)));
+        assert_eq!(
+            parts(&bare(&place, words)),
+            (String::new(), said.to_string(), Some(1))
+        );
     }
 }
 

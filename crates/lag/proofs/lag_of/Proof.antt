@@ -1,7 +1,7 @@
 -- `lag::lag_of` meets its contract.
 use borrow.Author.Needs.{needs}
 use borrow.Author.Tests.{eq-eqb, ne-eqb}
-use mathlib.Core.Path.{_≡_, sym, _∙_}
+use mathlib.Core.Path.{sym, _∙_}
 use Prim.Native.Nat.{_-_}
 use native.Mathlib.Omega.{arith}
 use mir.Syntax.{w32}
@@ -22,7 +22,7 @@ unfolding lagAnswer
 returns c = rw (← (c .before .lag-refusal .ensures), ne-eqb _ _ (c .if1 .taken))
 
 turn-ahead-requires : tie.Need-turn-ahead-requires
-turn-ahead-requires c κs = let g = good c in record { x-below = g .x-below; y-below = g .y-below; most = g .most }
+turn-ahead-requires c κs = let g = good c in omega arith
 
 mul-if2 : tie.Need-mul-if2
 mul-if2 c = omega (arith, good (c .before) .most)

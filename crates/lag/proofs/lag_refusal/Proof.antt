@@ -1,7 +1,7 @@
 -- `lag::lag_refusal` meets its contract: each return rewrites with the tests that led there.
 use borrow.Author.Needs.{needs}
 use borrow.Author.Tests.{le-leb, lt-leb}
-use mathlib.Core.Path.{_≡_, sym, _∙_}
+use mathlib.Core.Path.{sym, _∙_}
 use Rattle.lag.proofs.lag_refusal.Statement.{statement}
 use Rattle.lag.proofs.lag_refusal.Tie as tie
 

@@ -1,7 +1,6 @@
 -- `params::counter_refusal` meets its contract: each return rewrites with the tests that led there.
 use borrow.Author.Needs.{needs}
 use mathlib.Core.Path.{_≡_, sym, _∙_}
-use Prim.Native.Nat.{ℕ}
 use Rattle.rules.specs.Parameters.{badCards, badBroken, badModulus}
 use Rattle.rules.specs.Refusals.{given, counterRefusal}
 use Rattle.rules.proofs.Shapes.{shape-refused, shape-passed}

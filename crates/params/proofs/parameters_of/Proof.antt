@@ -1,7 +1,7 @@
 -- `params::parameters_of` meets its contract.
 use borrow.Author.Needs.{needs}
 use borrow.Author.Tests.{eq-eqb, ne-eqb}
-use mathlib.Core.Path.{_≡_, sym, _∙_}
+use mathlib.Core.Path.{sym, _∙_}
 use Rattle.rules.specs.Calls.{paramsAnswer}
 use Rattle.rules.proofs.Shapes.{accepted}
 use Rattle.params.proofs.parameters_of.Statement.{statement}

@@ -22,7 +22,8 @@ small c =
 
 held : (c : tie.After-beat-arg)
     → let w = c .before .before in
-    length (take (w .start-words .result) (w .before .before .before .args .table .now)) ≡ w .start-words .result
+    let a = w .before .before .before .args in
+    length (take (w .start-words .result) (a .table .now)) ≡ w .start-words .result
 held c =
     let w = c .before .before in
     let s = w .before .before .before in

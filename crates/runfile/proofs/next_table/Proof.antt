@@ -26,8 +26,9 @@ read-words-requires c κs =
 -- the words that are read are the first of the buffer
 first : (c : tie.After-read-words)
     → let w = c .before .before .before in
+    let a = w .before .before .before .args in
     let count = w .beat-words .result in
-    take count (c .read-words .last .1 .1 .0) ≡ wordsAt (w .before .before .before .args .line .now) 4 count
+    take count (c .read-words .last .1 .1 .0) ≡ wordsAt (a .line .now) 4 count
 first c =
     let w = c .before .before .before in
     let line = w .before .before .before .args .line .now in
