@@ -74,7 +74,7 @@ fn once<T>(option: &str, place: &mut Option<T>, value: T) -> Result<(), String> 
 
 fn known_fault(name: &str) -> Result<&str, String> {
     let known = Some(name).filter(|&name| name == "cooldown");
-    known.ok_or_else(|| format!("--fault knows 'cooldown' alone, not '{name}'"))
+    known.ok_or_else(|| format!("--fault takes only 'cooldown', not '{name}'"))
 }
 
 fn number(name: &str, text: &str) -> Result<u64, String> {

@@ -95,7 +95,7 @@ fn wrong_arguments_are_named() {
         (&["--fault"], "--fault lacks its value"),
         (
             &["--fault", "kings"],
-            "--fault knows 'cooldown' alone, not 'kings'",
+            "--fault takes only 'cooldown', not 'kings'",
         ),
         (&["--seed"], "--seed lacks its value"),
         (&["--seed", "many"], "SEED has to be a number, not 'many'"),
