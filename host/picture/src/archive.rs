@@ -1,4 +1,4 @@
-//! The proved archive as the program that the cards go by.
+//! The proved archive as the program that the cards run.
 
 use generate::Shape;
 use simulate::counter::Counter;

@@ -28,8 +28,8 @@ const COLOURS: [&str; 6] = [
 ];
 const GREY: &str = "#7d7d7d";
 
-/// What makes the records of the sound cards.
-const PROGRAM: &str = "the proved archive, linked";
+/// What steps the sound cards.
+const PROGRAM: &str = "the proved archive";
 
 /// A run, and what its cards show after each beat that is drawn.
 pub struct Counts {
@@ -83,7 +83,7 @@ impl Counts {
     fn shape(&self) -> Element {
         let (shape, lies, seed) = (self.run.shape, self.run.lies, self.run.seed);
         let shape = format!("n = {}, f = {}, c = {}", shape.n, shape.f, shape.c);
-        let words = format!("{shape}, lies: {lies}, seed {seed}; the sound cards go by {PROGRAM}");
+        let words = format!("{shape}, lies: {lies}, seed {seed}; {PROGRAM} steps the sound cards");
         label((20.0, 34.0), words)
     }
 
@@ -224,7 +224,7 @@ impl Counts {
             .child(sample(LEFT + 200.0, GREY, true))
             .child(label(
                 (LEFT + 232.0, y),
-                "broken: all counts told to sound cards",
+                "broken: all counts sent to sound cards",
             ))
             .child(thin(format!("M{} {y}L{} {y}", LEFT + 530.0, LEFT + 554.0)))
             .child(label((LEFT + 562.0, y), "no count"))

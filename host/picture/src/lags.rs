@@ -43,7 +43,7 @@ pub fn draw() -> Drawing {
         left: 512.0,
         highest,
         colour: "#0072b2",
-        title: "No comb: counts of the proved archive, linked",
+        title: "No comb: counts of the proved archive",
     };
     let caption = wrapped(&caption(), 118);
     let lines = caption.iter().zip(0..);

@@ -1,5 +1,5 @@
-//! The picture of a run and of what its agreement is for, as one SVG file. The sound cards that are
-//! drawn go by the proved archive.
+//! The picture of a run and of what its agreement is for, as one SVG file. The proved archive
+//! steps the sound cards that are drawn.
 
 #![forbid(unsafe_code)]
 
@@ -63,6 +63,6 @@ fn stacked(title: &str, parts: Vec<Drawing>) -> Element {
 }
 
 const DESCRIPTION: &str = "Above, beats across and a lane for each card with its count: the sound \
-    cards, which go by the proved archive, come to one count before T(f). Below, histograms of the \
+    cards, which the proved archive steps, come to one count before T(f). Below, histograms of the \
     lag between two cards: on the left three teeth, put in by hand, as the cards are set a block \
-    apart in some runs; on the right the one tooth of cards that go by the proved archive.";
+    apart in some runs; on the right the one tooth of cards that the proved archive steps.";

@@ -18,7 +18,7 @@ pub const RUNS: u64 = 64;
 const BLOCKS: usize = 40;
 const EVENTS_IN_BLOCK: usize = 4;
 
-/// The counts of the first two sound cards of each run, which go by this program.
+/// The counts of the first two sound cards of each run, stepped by this program.
 pub fn runs(counter: Counter) -> Vec<[Vec<u16>; 2]> {
     (0..RUNS).map(|run| counts_of_two(counter, run)).collect()
 }

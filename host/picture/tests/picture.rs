@@ -447,9 +447,8 @@ fn it_says_what_is_put_in_by_hand_and_what_comes_from_the_archive() {
     let [comb, no_comb] = ["comb", "nocomb"].map(|id| words(svg.with_id(id)));
     assert!(comb.contains("A comb put in by hand: cards set a block apart"));
     assert!(!comb.contains("archive"));
-    assert!(no_comb.contains("No comb: counts of the proved archive, linked"));
-    assert!(words(&svg).contains("the sound cards go by the proved archive, linked"));
-    assert!(!drawn(DRAWN).contains("bought"));
+    assert!(no_comb.contains("No comb: counts of the proved archive"));
+    assert!(words(&svg).contains("the proved archive steps the sound cards"));
 }
 
 /// The drawn bins of a histogram: the middle of each in blocks, and its events.

@@ -1,4 +1,4 @@
-//! The program that the sound cards of a run go by.
+//! The program of the sound cards of a run.
 
 use generate::Shape;
 use second::card;

@@ -91,7 +91,7 @@ impl Plan {
         }
     }
 
-    /// The same run of cards that go by another program.
+    /// The same run, of cards with another program.
     pub fn counted_by(self, counter: Counter) -> Plan {
         Plan { counter, ..self }
     }

@@ -25,12 +25,12 @@ pub struct Outcome {
 }
 
 impl Outcome {
-    /// The run with this seed, watched for so many times T(f) and somewhat longer.
+    /// The run with this seed, watched for that many times T(f) and somewhat longer.
     pub fn of(seed: u64, cooldown: Cooldown, times: usize) -> Outcome {
         Outcome::counted_by(SECOND, seed, cooldown, times)
     }
 
-    /// The same, of cards that go by another program.
+    /// The same, of cards that run another program.
     pub fn counted_by(counter: Counter, seed: u64, cooldown: Cooldown, times: usize) -> Outcome {
         let plan = Plan::of(seed).counted_by(counter);
         let bound = plan.bound();
