@@ -47,7 +47,7 @@ typedef struct {
 
 typedef uint8_t *(*Place)(Room *room, size_t count);
 
-/* The answers that there are, a bit each. */
+/* All possible results, a bit each. */
 enum {
     STEP_ANSWERS = 1 | 1 << TSENDURKHO_BAD_CARDS | 1 << TSENDURKHO_BAD_BROKEN | 1 << TSENDURKHO_BAD_MODULUS |
                    1 << TSENDURKHO_BAD_CARD | 1 << TSENDURKHO_BAD_RECORDS | 1 << TSENDURKHO_BAD_OUTPUT,

@@ -98,7 +98,7 @@ pub fn damaged_files(random: &mut Random) -> Case {
     outputs_of(&texts)
 }
 
-/// A file of at most three beats with at most so many cards: with more of them the texts grow
+/// A file of at most three beats with at most that many cards: with more of them the texts grow
 /// long, and a definition finds a character by counting up to it.
 fn short_file(random: &mut Random, cards: u32) -> RunFile {
     let shape = small_shape(random, cards);

@@ -93,25 +93,30 @@ impl Ended {
         String::from_utf8_lossy(&self.0.stdout).into_owned()
     }
 
-    fn told(&self) -> String {
+    fn reported(&self) -> String {
         String::from_utf8_lossy(&self.0.stderr).into_owned()
     }
 
     pub fn assert_passed(&self) {
-        assert!(self.0.status.success(), "{}{}", self.printed(), self.told());
-        assert_eq!(self.told(), "");
+        assert!(
+            self.0.status.success(),
+            "{}{}",
+            self.printed(),
+            self.reported()
+        );
+        assert_eq!(self.reported(), "");
     }
 
-    /// It failed, and told these lines alone.
+    /// It failed, and reported these lines and no others.
     pub fn assert_told(&self, lines: &[&str]) {
         assert_eq!(
             self.0.status.code(),
             Some(1),
             "{}{}",
             self.printed(),
-            self.told()
+            self.reported()
         );
-        let told = self.told();
-        assert_eq!(told.lines().collect::<Vec<_>>(), lines);
+        let reported = self.reported();
+        assert_eq!(reported.lines().collect::<Vec<_>>(), lines);
     }
 }

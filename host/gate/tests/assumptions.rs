@@ -23,7 +23,7 @@ fn copy(name: &str) -> Copy {
     copy
 }
 
-fn told(name: &str, sabotage: impl Fn(&Copy), line: &str) {
+fn reported(name: &str, sabotage: impl Fn(&Copy), line: &str) {
     let copy = copy(name);
     sabotage(&copy);
     copy.run(".ci/assumptions").assert_told(&[line]);
@@ -41,7 +41,7 @@ fn a_program_and_its_libraries() {
 
 #[test]
 fn a_library_that_reaches_an_assumed_contract() {
-    told(
+    reported(
         "reaches",
         |copy| copy.write("target/log/high.say", PROGRAM),
         "assumptions: high rests on libc::read, libc::write",
@@ -55,7 +55,7 @@ fn a_library_that_only_counts_or_declares() {
         ("axioms=1", "axioms=1"),
         ("foreign=low::write", "foreign=low::write"),
     ] {
-        told(
+        reported(
             "declares",
             |copy| {
                 copy.write(
@@ -70,7 +70,7 @@ fn a_library_that_only_counts_or_declares() {
 
 #[test]
 fn a_library_on_one_that_is_not_ours() {
-    told(
+    reported(
         "not-ours",
         |copy| {
             copy.write(
@@ -84,12 +84,12 @@ fn a_library_on_one_that_is_not_ours() {
 
 #[test]
 fn a_crate_without_a_verdict() {
-    told(
+    reported(
         "not-proved",
         |copy| copy.write("target/log/low.say", "logic=not-proved\n"),
         "assumptions: target/log/low.say has no verdict",
     );
-    told(
+    reported(
         "no-report",
         |copy| copy.remove("target/log/low.say"),
         "assumptions: target/log/low.say has no verdict",

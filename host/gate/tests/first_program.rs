@@ -1,4 +1,4 @@
-//! docs/HOST.md: its first program works as it stands there, with the checkout's archive and with one that is installed;
+//! docs/HOST.md: its first program works exactly as printed there, with the checkout's archive and with one that is installed;
 //! and a build that finds no archive, or is for another machine, says what to do.
 
 use std::env;

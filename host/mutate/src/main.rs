@@ -102,7 +102,7 @@ fn tried<'m>(
         equivalents,
     };
     let aloud = request.choice.which().is_some();
-    let tell = |outcome: &Outcome| {
+    let report = |outcome: &Outcome| {
         if aloud {
             print!("{}", outcome.printed);
         }
@@ -117,7 +117,7 @@ fn tried<'m>(
             .collect();
         if !mutants.is_empty() {
             println!("{library}: {} mutants", mutants.len());
-            outcomes.extend(run.of_crate(library, &mutants, tell)?);
+            outcomes.extend(run.of_crate(library, &mutants, report)?);
         }
     }
     Ok(outcomes)

@@ -75,7 +75,7 @@ fn small_file() -> Vec<u8> {
     RunFile::of_length(&mut Random::new(201), shape, 0b0100, 2).text()
 }
 
-/// A file of so many beats of about 8,000 bytes each.
+/// A file of that many beats of about 8,000 bytes each.
 fn file_of(beats: usize) -> Vec<u8> {
     let shape = Shape {
         n: 16,

@@ -7,14 +7,14 @@ use crate::survey::{late, Outcome, Survey};
 
 const RUNS: u64 = 2_000;
 
-/// How many late runs are told one by one, and for how many times T(f) they are watched.
-const TOLD: usize = 10;
+/// How many late runs are listed one by one, and for how many times T(f) they are watched.
+const LISTED: usize = 10;
 const LONG: usize = 10;
 
 /// What the arguments of the launcher's command `simulate` ask for.
 #[derive(Debug, PartialEq, Eq)]
 pub enum Request<'a> {
-    /// The latest beat of agreement in so many runs.
+    /// The latest beat of agreement in that many runs.
     Agreement(u64),
     /// The same runs with wrong cooldowns beside.
     Fault(u64),
@@ -170,9 +170,9 @@ fn found(survey: &Survey) -> String {
 /// The first late runs of a survey.
 fn late_runs(survey: &Survey) -> String {
     let late = late(&survey.outcomes);
-    let told = late.iter().take(TOLD);
-    let told = told.map(|run| one_run(run.seed, survey.cooldown));
-    told.map(|run| format!("late: {run}")).collect()
+    let listed = late.iter().take(LISTED);
+    let listed = listed.map(|run| one_run(run.seed, survey.cooldown));
+    listed.map(|run| format!("late: {run}")).collect()
 }
 
 fn one_run(seed: u64, cooldown: Cooldown) -> String {

@@ -110,7 +110,7 @@ impl Level {
     }
 }
 
-/// A record with every count moved by so many steps; none stays.
+/// A record with every count moved by that many steps; none stays.
 pub fn moved(path: &[Level], record: &[u16], steps: i32) -> Vec<u16> {
     let mut moved = record.to_vec();
     for (place, modulus) in path.iter().flat_map(|level| level.counts()) {
@@ -121,7 +121,7 @@ pub fn moved(path: &[Level], record: &[u16], steps: i32) -> Vec<u16> {
     moved
 }
 
-/// A count moved by so many steps, modulo its modulus.
+/// A count moved by that many steps, modulo its modulus.
 pub fn stepped(count: u16, modulus: u16, steps: i32) -> u16 {
     (i32::from(count) + steps).rem_euclid(i32::from(modulus)) as u16
 }
