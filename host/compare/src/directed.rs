@@ -11,7 +11,7 @@ use crate::case::Case;
 use crate::shapes::split_shape;
 
 /// All cards send one m of each half, the card's own M is mostly the count before it, and its w
-/// stands at one of the places where it is read or changed in another way.
+/// is at one of the values where it is read or changed in another way.
 pub fn votes_go_on(random: &mut Random) -> Case {
     let shape = split_shape(random);
     let (f, words) = (shape.f as usize, shape.words());

@@ -15,7 +15,7 @@ pub struct Copy {
 }
 
 impl Copy {
-    /// The scripts alone.
+    /// Only the scripts.
     pub fn of_scripts(name: &str) -> Copy {
         let folder = env::temp_dir().join(format!("gate-{}-{name}", std::process::id()));
         fs::create_dir(&folder).expect("a folder for the copy");
@@ -51,8 +51,7 @@ impl Copy {
 
     pub fn write(&self, file: &str, text: &str) {
         let path = self.path(file);
-        fs::create_dir_all(path.parent().expect("a file stands in a folder"))
-            .expect("a folder for it");
+        fs::create_dir_all(path.parent().expect("a file is in a folder")).expect("a folder for it");
         fs::write(path, text).expect("the file can be written");
     }
 

@@ -12,7 +12,7 @@ fn copy(name: &str) -> Copy {
     let copy = Copy::of_scripts(name);
     copy.write(
         "crates.txt",
-        "# NAME: what it stands on\nlow:\nhigh: low\nprogram: high io libc\n",
+        "# NAME: what it depends on\nlow:\nhigh: low\nprogram: high io libc\n",
     );
     copy.write("crates/low/src/lib.rt", "");
     copy.write("crates/high/src/lib.rt", "");
@@ -78,7 +78,7 @@ fn a_library_on_one_that_is_not_ours() {
                 "low: libc\nhigh: low\nprogram: high io libc\n",
             )
         },
-        "assumptions: low stands on libc, which is no library of ours",
+        "assumptions: low depends on libc, which is not a library of this repository",
     );
 }
 

@@ -15,7 +15,7 @@ fn reported(name: &str, sabotage: impl Fn(&Copy), lines: &[&str]) {
     copy.run(".ci/contracts").assert_told(lines);
 }
 
-/// A copy with something in it that is no fault.
+/// A copy with something in it that is not a fault.
 fn passes(name: &str, change: impl Fn(&Copy)) -> String {
     let copy = Copy::of_repository(name);
     change(&copy);
@@ -102,12 +102,12 @@ fn a_row_of_no_routine() {
     reported(
         "no-routine",
         |copy| copy.replace(LAG, "pub fn lag_refusal", "fn lag_refusal"),
-        &["contracts: lag::lag_refusal: it is listed, and is no pub fn"],
+        &["contracts: lag::lag_refusal: it is listed, but is not a pub fn"],
     );
     reported(
         "no-internal-routine",
         |copy| copy.replace(COLUMNS, "pub fn read_vote", "pub(crate) fn read_vote"),
-        &["contracts: columns::read_vote: it is listed, and is no pub fn"],
+        &["contracts: columns::read_vote: it is listed, but is not a pub fn"],
     );
 }
 
@@ -193,7 +193,7 @@ fn a_lemma_of_another_contract() {
     );
 }
 
-/// A way out behind the statement, on its line or on the next; and a lemma that sees nothing of the answer.
+/// A way out after the statement, on its line or on the next; and a lemma that says nothing of the result.
 #[test]
 fn a_lemma_that_says_less() {
     let over = "Determined lag-kinds.ps lag-kinds.r lag-reads.Pre lag-reads.Post\n";

@@ -74,7 +74,7 @@ fn answer(request: &Request) -> Result<bool, Failure> {
 fn asked(names: &[String]) -> Result<Vec<String>, Failure> {
     let libraries = libraries(&root()).map_err(failed)?;
     if let Some(unknown) = names.iter().find(|name| !libraries.contains(name)) {
-        let message = format!("'{unknown}' is no library that crates.txt lists");
+        let message = format!("'{unknown}' is not a library in crates.txt");
         return Err(Failure::WrongUse(message));
     }
     let wanted = |library: &String| names.is_empty() || names.contains(library);

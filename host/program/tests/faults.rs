@@ -137,7 +137,7 @@ fn more_than_a_million_reads() {
     assert_ends(fed_by_bytes(&text), &wanted(&text), "", 0);
 }
 
-/// A socket that may not wait fails to be read behind the bytes that are there, as an interrupted read fails.
+/// A socket that may not wait fails to be read after the bytes that are there, as an interrupted read fails.
 #[test]
 fn a_read_that_fails_anywhere() {
     let text = small_file();

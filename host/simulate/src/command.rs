@@ -28,7 +28,7 @@ pub enum Request<'a> {
     Lies,
 }
 
-/// The options and the argument that stand there, in any order.
+/// The options and the argument, in any order.
 #[derive(Default)]
 struct Given<'a> {
     runs: Option<u64>,

@@ -115,7 +115,7 @@ fn wrong_arguments_are_named() {
     }
 }
 
-/// What links the archive stands apart.
+/// What links the archive is apart.
 #[test]
 fn a_picture_is_not_drawn_here() {
     let Answer { output, errors } = answer_to(&["--svg", "run.svg"]);
