@@ -23,7 +23,7 @@ pub fn differences(cases: &[Case], refused: &Refused) -> String {
             }
         }
     }
-    report + &format!("compare: {} equations do not hold\n", refused.len())
+    report + &format!("compare: equations that do not hold: {}\n", refused.len())
 }
 
 /// The figures, or an error where a wrong value was not refused.

@@ -92,7 +92,7 @@ rt: cases NOT PROVED (exit 1, 0 s)
 ";
 
 #[test]
-fn a_refused_claim_is_told_with_its_inputs() {
+fn a_refused_claim_is_reported_with_its_inputs() {
     let refused = refused_claims(SAID);
     assert_eq!(refused.keys().collect::<Vec<_>>(), ["case1-lag"]);
     let report = differences(&[lag(2), lag(3), lag(2)], &refused);
@@ -104,11 +104,11 @@ fn a_refused_claim_is_told_with_its_inputs() {
     assert!(report.starts_with(wanted), "{report}");
     assert!(report.contains("\n  computed as far as they go"));
     assert!(!report.contains("logic=not-proved"));
-    assert!(report.ends_with("compare: 1 equations do not hold\n"));
+    assert!(report.ends_with("compare: equations that do not hold: 1\n"));
 }
 
 #[test]
-fn another_error_is_no_refused_claim() {
+fn another_error_is_not_a_refused_claim() {
     let said = "Batch0.antt:8:1: error: `lagOf`: there is no such name\n";
     assert_eq!(refused_claims(said), Refused::new());
 }

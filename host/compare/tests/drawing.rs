@@ -24,7 +24,7 @@ fn values(draw: Draw, about: &str) -> Vec<Value> {
 }
 
 #[test]
-fn a_seed_has_its_cases_and_a_case_does_not_hang_on_their_count() {
+fn a_seed_has_its_cases_and_a_case_does_not_depend_on_their_count() {
     assert_eq!(draw(60, 5)[..40], draw(40, 5));
     assert_ne!(draw(40, 5), draw(40, 6));
 }

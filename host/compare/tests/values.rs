@@ -27,7 +27,7 @@ fn each_value_is_written_as_antt_reads_it() {
 }
 
 #[test]
-fn an_argument_of_several_words_stands_in_brackets() {
+fn an_argument_of_several_words_is_in_brackets() {
     let list = Value::list(&[2_u16, 1]);
     let empty = Value::list::<u16>(&[]);
     let term = apply("shownAnswer", &[&2, &0, &empty, &list]);

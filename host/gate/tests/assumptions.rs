@@ -69,7 +69,7 @@ fn a_library_that_only_counts_or_declares() {
 }
 
 #[test]
-fn a_library_on_one_that_is_not_ours() {
+fn a_library_on_one_from_elsewhere() {
     reported(
         "not-ours",
         |copy| {

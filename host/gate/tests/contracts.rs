@@ -262,7 +262,7 @@ fn one_edit_for_two() {
 }
 
 #[test]
-fn edits_of_other_routines_alone() {
+fn only_edits_of_other_routines() {
     reported(
         "edits-elsewhere",
         |copy| {

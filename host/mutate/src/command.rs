@@ -20,11 +20,11 @@ pub fn request(arguments: &[String]) -> Result<Request, String> {
     };
     let mut words = arguments.iter();
     while let Some(word) = words.next() {
-        let mut value = || words.next().ok_or(format!("{word} lacks its value"));
+        let mut value = || words.next().ok_or(format!("{word} needs a value"));
         match word.as_str() {
             "--list" => request.list = true,
             "--all" | "--only" if request.choice != Choice::Spread => {
-                return Err("there is one --all or --only at most".to_string());
+                return Err("at most one of --all and --only is allowed".to_string());
             }
             "--all" => request.choice = Choice::All,
             "--only" => request.choice = Choice::only(value()?),

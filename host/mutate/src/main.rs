@@ -51,7 +51,9 @@ fn answer(request: &Request) -> Result<bool, Failure> {
     }
     let chosen = request.choice.of(&mutants_of_all);
     if let (true, Some(which)) = (chosen.is_empty(), request.choice.which()) {
-        return Err(Failure::WrongUse(format!("no edit is --only '{which}'")));
+        return Err(Failure::WrongUse(format!(
+            "no edit has the number or name '{which}'"
+        )));
     }
     if request.list {
         chosen

@@ -50,18 +50,18 @@ fn options_and_crates_may_be_mixed() {
 #[test]
 fn wrong_arguments_are_named() {
     for (wrong, said) in [
-        (&["--jobs"][..], "--jobs lacks its value"),
+        (&["--jobs"][..], "--jobs needs a value"),
         (&["--jobs", "0"], "N has to be a number from 1 on, not '0'"),
         (&["--jobs", "x"], "N has to be a number from 1 on, not 'x'"),
-        (&["--only"], "--only lacks its value"),
+        (&["--only"], "--only needs a value"),
         (&["--every"], "there is no option '--every'"),
         (
             &["--all", "--only", "1"],
-            "there is one --all or --only at most",
+            "at most one of --all and --only is allowed",
         ),
         (
             &["--only", "1", "--only", "2"],
-            "there is one --all or --only at most",
+            "at most one of --all and --only is allowed",
         ),
     ] {
         assert_eq!(asked(wrong), Err(said.to_string()));

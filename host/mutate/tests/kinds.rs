@@ -128,7 +128,7 @@ fn statements_are_left_out() {
 }
 
 #[test]
-fn what_gives_the_answer_stays() {
+fn what_gives_the_result_stays() {
     let body = "if x < y {\nreturn x;\n} else {\nf();\n}\nmatch x {\n0 => x,\n_ => y,\n}";
     assert_eq!(made("dropped", " -> u8", body), ["", ""]);
     let body = "if x < y {\nx\n} else {\ny\n}";
@@ -136,7 +136,7 @@ fn what_gives_the_answer_stays() {
 }
 
 #[test]
-fn functions_answer_at_once() {
+fn functions_return_at_once() {
     assert_eq!(
         made("return", " -> bool", "f(x)"),
         ["{ return false;", "{ return true;"]

@@ -106,7 +106,7 @@ fn outcome(mutant: &Mutant, ending: Ending) -> Outcome<'_> {
 }
 
 #[test]
-fn what_is_no_program_does_not_count_as_a_mutant() {
+fn what_is_not_a_program_does_not_count_as_a_mutant() {
     let mutants = mutants_in(SAMPLE);
     let endings = [
         Ending::Refused,

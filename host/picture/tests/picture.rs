@@ -417,7 +417,7 @@ fn together_since(svg: &Node, plan: &Plan) -> usize {
 }
 
 #[test]
-fn the_marks_stand_at_the_beats_of_the_run() {
+fn the_marks_are_at_the_beats_of_the_run() {
     for seed in [DRAWN, 212] {
         let (svg, plan, run) = (read(seed), Plan::of(seed), Outcome::of(seed, RIGHT, 1));
         let mark = |id| {
@@ -484,7 +484,7 @@ fn teeth(bins: &[(f64, f64)]) -> usize {
 }
 
 #[test]
-fn a_block_apart_makes_a_comb_and_agreement_none() {
+fn a_block_apart_makes_a_comb_and_agreement_makes_none() {
     let svg = read(DRAWN);
     assert_eq!(teeth(&drawn_bins(&svg, "comb")), 3);
     assert_eq!(teeth(&drawn_bins(&svg, "nocomb")), 1);

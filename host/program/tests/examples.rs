@@ -8,7 +8,7 @@ use program::{launched, output_of, parts, root, scratch, wanted, word};
 const PAGE: &str = "docs/RUNFILES.md";
 
 #[test]
-fn the_examples_print_what_stands_beside_them() {
+fn the_examples_print_what_is_beside_them() {
     let mut found = 0;
     for entry in fs::read_dir(root().join("examples")).expect("there are examples") {
         let path = entry.expect("an example").path();

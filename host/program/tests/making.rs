@@ -285,7 +285,7 @@ fn on_terminal(place: &Repository, command: &str) -> String {
 }
 
 #[test]
-fn on_a_terminal_the_line_is_written_over_and_cleared() {
+fn on_a_terminal_the_line_is_overwritten_and_cleared() {
     let place = Repository::new("terminal");
     place.write(
         "prints",

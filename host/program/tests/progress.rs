@@ -59,7 +59,7 @@ fn nothing_is_said_where_there_is_no_terminal() {
 }
 
 #[test]
-fn a_short_file_prints_its_output_alone() {
+fn a_short_file_prints_only_its_output() {
     let (path, printed) = run_file("short.txt", 100);
     assert!(fs::metadata(&path).unwrap().len() < 1_000_000);
     assert!(on_terminal(&path) == with_returns(&printed));

@@ -86,7 +86,7 @@ const NONE: &str = "which is none of 0-9, a-f";
 const LONG: &str = "characters where 12 are wanted";
 
 #[test]
-fn characters_that_are_no_digits() {
+fn characters_that_are_not_digits() {
     let line_2 = |record: &str| format!("{HEADER}0000{record}\n");
     let said_of_2 = |said: &str| format!("line 2 refused (10): {said}");
     let other = said_of_2(&format!("character 7 is 'G', {NONE}"));

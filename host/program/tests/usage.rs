@@ -42,7 +42,7 @@ fn refused(words: &[&str], said: &str) {
 }
 
 #[test]
-fn a_command_that_there_is_not() {
+fn an_unknown_command() {
     for command in ["walk", "", "--fast", "r.n", "usage:"] {
         let said = format!("tsendurkho: there is no command '{command}'; try ./tsendurkho help");
         assert_wrong(&[command], &said);
@@ -95,11 +95,11 @@ fn arguments_that_a_tool_does_not_take() {
         (&["mutate", "lug"], "'lug' is not a library in crates.txt"),
         (
             &["mutate", "--only", "no such edit", "lag"],
-            "no edit is --only 'no such edit'",
+            "no edit has the number or name 'no such edit'",
         ),
         (
             &["mutate", "--list", "--only", "999999", "lag"],
-            "no edit is --only '999999'",
+            "no edit has the number or name '999999'",
         ),
     ] {
         let tool = words[0];
@@ -132,7 +132,7 @@ fn a_file_that_cannot_be_a_run_file() {
 }
 
 #[test]
-fn a_prefix_that_there_cannot_be() {
+fn an_impossible_prefix() {
     let file = scratch("no-prefix").join("file");
     fs::write(&file, "").expect("a file can be written");
     for command in ["install", "uninstall"] {

@@ -51,7 +51,7 @@ fn given<'a>(arguments: &[&'a str]) -> Result<Given<'a>, String> {
     let mut given = Given::default();
     let mut words = arguments.iter().copied();
     while let Some(word) = words.next() {
-        let mut value = || words.next().ok_or(format!("{word} lacks its value"));
+        let mut value = || words.next().ok_or(format!("{word} needs a value"));
         match word {
             "--fault" => once(word, &mut given.fault, known_fault(value()?)?)?,
             "--seed" => once(word, &mut given.seed, number("SEED", value()?)?)?,

@@ -37,7 +37,7 @@ fn the_answer_is_the_same_each_time() {
 }
 
 #[test]
-fn the_search_for_the_fault_tells_of_all_three_cooldowns() {
+fn the_search_for_the_fault_reports_all_three_cooldowns() {
     let printed = lines(&["--fault", "cooldown", "8"]);
     let has_f = |line: &&Vec<String>| line.iter().take(1).any(|f| f.parse::<u32>().is_ok());
     assert_eq!(printed.iter().filter(has_f).count(), 5);
@@ -49,7 +49,7 @@ fn the_search_for_the_fault_tells_of_all_three_cooldowns() {
 }
 
 #[test]
-fn one_run_is_told_with_each_cooldown() {
+fn one_run_is_printed_with_each_cooldown() {
     let printed = lines(&["--seed", "3"]);
     assert_eq!(printed.len(), 3);
     assert!(printed
@@ -92,15 +92,15 @@ fn wrong_arguments_are_named() {
         (&["-1"], "there is no option '-1'"),
         (&["--fast"], "there is no option '--fast'"),
         (&["1", "2"], "one argument too many: '2'"),
-        (&["--fault"], "--fault lacks its value"),
+        (&["--fault"], "--fault needs a value"),
         (
             &["--fault", "kings"],
             "--fault takes only 'cooldown', not 'kings'",
         ),
-        (&["--seed"], "--seed lacks its value"),
+        (&["--seed"], "--seed needs a value"),
         (&["--seed", "many"], "SEED has to be a number, not 'many'"),
         (&["--seed", "1", "--seed", "2"], "--seed is given twice"),
-        (&["--svg"], "--svg lacks its value"),
+        (&["--svg"], "--svg needs a value"),
         (
             &["--lies", "--seed", "1"],
             "these do not go together: --lies --seed 1",

@@ -86,14 +86,14 @@ fn all_but_the_silent_and_the_drifting_differ_between_listeners() {
 }
 
 #[test]
-fn the_silent_card_tells_none() {
+fn the_silent_card_sends_none() {
     watch_run(strategy("silent"), |_, told| {
         assert!(told.iter().all(|&word| word == NONE));
     });
 }
 
 #[test]
-fn the_echo_tells_the_listeners_own_record() {
+fn the_echo_sends_the_listeners_own_record() {
     watch_run(strategy("echo"), |telling, told| {
         assert_eq!(told, telling.scene.record(telling.listener));
     });
@@ -173,7 +173,7 @@ fn the_drifting_counts_are_one_behind() {
 }
 
 #[test]
-fn what_each_listener_was_told_is_kept() {
+fn what_each_listener_was_sent_is_kept() {
     let told_by = |name, wanted: fn(&Telling) -> Vec<u16>| {
         let start = Start::AnyWords.table(SHAPE, &mut Random::new(5));
         let mut scene = Scene::new(SHAPE, BROKEN, start.clone(), RIGHT);
