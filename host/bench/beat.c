@@ -65,7 +65,7 @@ static int check(void)
     return 0;
 }
 
-/* The broken cards' words stand one behind the other, so that those of each beat begin one word later. */
+/* The broken cards' words come one after the other, and those of each beat begin one word later. */
 static void make_beats(Beat beat, Rack rack, long beats, const uint16_t *held, const uint16_t *sent)
 {
     uint16_t out[MOST_WORDS];

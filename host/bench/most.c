@@ -24,7 +24,7 @@ typedef struct {
     uint16_t heard[MOST_WORDS];
 } Case;
 
-/* A group that a card is in: its first card, and where its words stand in a record. */
+/* A group that a card is in: its first card, and where its words are in a record. */
 typedef struct {
     uint32_t first, n, f;
     size_t base;
@@ -33,11 +33,11 @@ typedef struct {
 volatile sig_atomic_t taken;   /* instructions */
 volatile sig_atomic_t outside; /* is memcpy or memset at work? */
 
-/* A step that is its return alone. */
+/* A step that is only its return. */
 uint32_t no_step(uint32_t n, uint32_t f, uint32_t c, uint32_t card, const uint8_t *records, size_t records_len, uint8_t *out,
                  size_t out_len);
 
-/* The last three instructions behind memcpy and memset are counted, and taken back. */
+/* The last three instructions after memcpy and memset are counted, and subtracted again. */
 #define UNCOUNTED(name)                                                                        \
     "__wrap_" name ": incl outside(%rip)\n subq $8, %rsp\n call __real_" name "@PLT\n"         \
     "addq $8, %rsp\n decl outside(%rip)\n subl $3, taken(%rip)\n ret\n"

@@ -47,7 +47,7 @@ typedef struct {
 
 typedef uint8_t *(*Place)(Room *room, size_t count);
 
-/* The answers that there are, a bit each. */
+/* All possible results, a bit each. */
 enum {
     STEP_ANSWERS = 1 | 1 << TSENDURKHO_BAD_CARDS | 1 << TSENDURKHO_BAD_BROKEN | 1 << TSENDURKHO_BAD_MODULUS |
                    1 << TSENDURKHO_BAD_CARD | 1 << TSENDURKHO_BAD_RECORDS | 1 << TSENDURKHO_BAD_OUTPUT,
@@ -73,7 +73,7 @@ static void open_room(Room *room)
 {
     uint8_t *pages = mmap(NULL, 3 * PAGE, PROT_NONE, MAP_PRIVATE | MAP_ANONYMOUS, -1, 0);
     if (pages == MAP_FAILED || mprotect(pages + PAGE, PAGE, PROT_READ | PROT_WRITE) != 0) {
-        fail("there is no memory");
+        fail("out of memory");
     }
     room->page = pages + PAGE;
     nowhere = pages;
@@ -210,7 +210,7 @@ static void read_step(Call *call)
     numbers += scanf("%u", &call->refusal);
     read_bytes(&call->after);
     if (numbers != 5 || call->after.count != call->out.count) {
-        fail("this is no step");
+        fail("this is not a step");
     }
     step_answers |= 1 << call->refusal;
 }
@@ -220,7 +220,7 @@ static void try_lag(void)
     uint32_t c, x, y, refusal;
     int32_t value;
     if (scanf("%u %u %u %u %d", &c, &x, &y, &refusal, &value) != 5) {
-        fail("this is no lag");
+        fail("this is not a lag");
     }
     lag_answers |= 1 << refusal;
     calls += 2;
@@ -248,7 +248,7 @@ static void try_record(void)
     read_bytes(&record);
     numbers += scanf("%u", &shown);
     if (numbers != 5 || f > TSENDURKHO_MOST_BROKEN) {
-        fail("this is no record");
+        fail("this is not a record");
     }
     if (TSENDURKHO_RECORD_WORDS(f) != words || TSENDURKHO_RECORD_BYTES(f) != record.count) {
         fail("another size of a record");

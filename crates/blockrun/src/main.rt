@@ -13,7 +13,7 @@ struct Ran {
     whole: bool,
 }
 
-// Reads a piece, and answers how long it is: 0 where the input ends or the read failed.
+// Reads a piece, and returns how long it is: 0 if the input ends or the read failed.
 fn get(piece: &mut [u8]) -> usize
     ensures { λ r. ⌜ Counts r (now (piece .exit)) ⌝ }
 {
@@ -24,7 +24,7 @@ fn get(piece: &mut [u8]) -> usize
     io::count(got, piece)
 }
 
-// Does an f stand there?
+// Is there an f at this place?
 fn is_f(text: &[u8], at: usize) -> bool {
     at < text.len() && text[at] == b'f'
 }
@@ -34,9 +34,9 @@ fn is_refusal(text: &[u8]) -> bool {
     is_f(text, 0) && is_f(text, 1) && is_f(text, 2) && is_f(text, 3)
 }
 
-// Writes some output, and answers whether all of it and all before it was written. After a line that could not be written
-// nothing more is: another line behind a part of it would be read as one line with wrong counts. A refusal is reported on
-// standard error too, for whoever started the program to see it there.
+// Writes some output, and returns whether all of it and all before it was written. After a line that could not be written
+// nothing more is: another line after part of it would be read as one line with wrong counts. A refusal is reported on
+// standard error too, where the launcher looks for it.
 fn put(before: bool, text: &[u8]) -> bool {
     if !before {
         return false;
@@ -88,7 +88,7 @@ fn is_over(ran: Ran) -> bool {
 }
 
 // Reads to the end of the input, to the first bad line, or to a line that could not be written. Nothing says that an input
-// ends, so the turns are counted down, from a number that no run uses up.
+// ends, so the rounds are counted down, from a number that no run uses up.
 fn run_input(line: &mut [u8; 8005], table: &mut [u16; 400]) -> Ran
     ensures { λ r. ⌜ Reached (r .feed) (now (line .exit)) (now (table .exit)) ⌝ }
 {

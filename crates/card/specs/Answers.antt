@@ -9,7 +9,7 @@ use Rattle.rules.specs.Refusals.{shownRefusal}
 use Rattle.rules.specs.Calls.{shownAnswer}
 use Rattle.card.specs.declared.Shown.{Shown}
 
--- 65,535 is none and never a count, so that the number shows which case it is
+-- 65,535 is none and never a count, so the number shows which case it is
 pub record Shows (n f c : ℕ) (words : List ℕ) (r : Shown) : Type 0 where
   pub refusal : r .refusal ≡ shownRefusal n f c (length words)
   pub number : wordOf (r .count) ≡ wordOf (shownAnswer n f c words)

@@ -1,4 +1,4 @@
--- The lengths that one card's step is refused by: in words or in bytes, `units` of which make a word.
+-- The lengths for which one card's step is refused: in words or in bytes, `units` of which make a word.
 use Prim.Native.Nat.{ℕ, _*_}
 use lib.Dec.{leb}
 use Rattle.rules.specs.Parameters.{recordWords}

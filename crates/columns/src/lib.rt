@@ -97,7 +97,7 @@ fn all_but(recs: &[u16], col: Column, spare: usize, low: u32, high: u32) -> bool
     true
 }
 
-// Did at least n-f cards of the column send y? Who sent no count sent none.
+// Did at least n-f cards of the column send y? A card that sent no count sent none.
 pub fn sent_enough(recs: &[u16], col: Column, f: usize, m: u32, y: Vote) -> bool
     requires { ⌜ Within (length (now recs)) col ⌝ }
     ensures { λ r. ⌜ r ≡ enough (col .n) f (sentBy (col .n) (votesIn m (now (recs .entry)) col) y) ⌝ }

@@ -1,4 +1,4 @@
--- Where a number or words can be read: the text has digits alone, and so many of them from a place on.
+-- Where a number or words can be read: the text has only digits, and enough of them from a place on.
 use mathlib.Core.Path.{_≡_}
 use mathlib.Core.Bool.{true}
 use mathlib.Core.List.{List}

@@ -87,7 +87,7 @@ pub fn number_at(text: &[u8], at: usize, digits: usize) -> u32
     number
 }
 
-// Writes a number at a place, in so many digits, from its last digit on.
+// Writes a number at a place, in a given number of digits, from its last digit on.
 pub fn put_number(out: &mut [u8], at: usize, digits: usize, number: u32)
     requires { ⌜ at + digits ≤ length (now out) ⌝ }
     ensures { λ _. ⌜ now (out .exit) ≡ sets (now (out .entry)) at (hexOf digits number) ⌝ }

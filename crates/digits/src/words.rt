@@ -8,7 +8,7 @@ ghost use Rattle.digits.specs.Readable.{Readable};
 use super::number_at;
 use super::put_number;
 
-// The word whose four digits stand at a place.
+// The word whose four digits are at a place.
 fn word_at(text: &[u8], at: usize) -> u16
     requires { ⌜ Readable (now text) at 4 ⌝ }
     ensures { λ r. ⌜ r ≡ numberAt (now (text .entry)) at 4 ⌝ }

@@ -26,7 +26,7 @@ pub record ByteRun (n f c : ℕ) (sound : ℕ → Bool) : Type 0 where
   pub before : ℕ → ℕ → List ℕ
   -- no sound card's call is refused
   pub accepted : (r v : ℕ) → v < n → sound v ≡ true → stepBytesRefusal n f c v (length (hears r v)) (length (before r v)) ≡ 0
-  -- what a sound card hears of a sound card u, at the place of the record u, is what u holds
+  -- what a sound card hears from a sound card u, in the slot of u, is what u holds
   pub heard : (r v u : ℕ) → v < n → sound v ≡ true → u < n → sound u ≡ true
       → (j : ℕ) → j < recordBytes f → getD (hears r v) (u * recordBytes f + j) 0 ≡ getD (holds r u) j 0
   -- a sound card's next bytes are what the call leaves in the output buffer
@@ -47,7 +47,7 @@ SettlesOnBytes =
     × ((k v : ℕ) → v < n → sound v ≡ true → Shows f c ((x + k) % c) (R .holds (settleBeats f + k) v))
 
 -- There are such runs for all starting bytes and for all that the broken cards send: `start v` is what the card v starts with, and
--- `told r v u` what v hears of the broken card u after r beats
+-- `told r v u` what v hears from the broken card u after r beats
 abbrev pub RunsFromAnyStart : Type 0
 RunsFromAnyStart =
     (n f c : ℕ) (sound : ℕ → Bool) → counterRefusal n f c 0 ≡ 0 → (start : ℕ → List ℕ) (told : ℕ → ℕ → ℕ → List ℕ)

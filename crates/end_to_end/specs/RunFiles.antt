@@ -21,7 +21,7 @@ linesWritten text = linesOf (runText text)
 abbrev pub lineOn : List ℕ → ℕ → List ℕ
 lineOn text beat = getD (linesWritten text) beat []
 
--- the word of the card v on such a line, behind the beat
+-- the word of the card v on such a line, after the beat
 abbrev pub cardWord : List ℕ → ℕ → ℕ
 cardWord line v = numberAt line (4 + 4 * v) 4
 
@@ -40,7 +40,7 @@ abbrev pub Counts : List ℕ → ℕ → ℕ → Type 0
 Counts text x k = Shows (header text) (settledBeat text k) ((x + k) % header text .c) (lineOn text (settledBeat text k))
 
 -- For every run file whose line 1 is good, whatever its cards start with and its broken cards send, there is an x below c such
--- that the line for the beat T(f) + k, where there is one and it is no refusal's (ffff), shows (x + k) modulo c
+-- that the line for the beat T(f) + k, if there is one and it is not a refusal's (ffff), shows (x + k) modulo c
 abbrev pub SettlesInFiles : Type 0
 SettlesInFiles =
     (text : List ℕ) → headerRefusal (lineAt 1 text) ≡ 0

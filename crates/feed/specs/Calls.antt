@@ -25,7 +25,7 @@ unfoldable pub machineOf : Feed → List ℕ → List ℕ → Machine
 machineOf (Reading stage held) line table = reading (stageOf stage table) (take held line) []
 machineOf Stopped line table = stopped []
 
--- what is kept of it beside the buffers, its records, and what it has written
+-- what is kept of it besides the buffers, its records, and what it has written
 unfoldable pub keptFeed : Machine → Feed
 keptFeed (reading stage held written) = Reading (keptOf stage) (length held)
 keptFeed (stopped written) = Stopped
@@ -43,11 +43,11 @@ unfoldable pub goingOn : Machine → Machine
 goingOn (reading stage held written) = reading stage held []
 goingOn (stopped written) = stopped []
 
--- the buffer of the line, where a part is held behind what it holds
+-- the buffer of the line, with a part added to what it holds
 abbrev pub heldWith : List ℕ → ℕ → List ℕ → List ℕ
 heldWith line held part = sets line (min held longest) (take (longest - min held longest) part)
 
--- what `hold` asks: the buffer of a line, and a part of a piece
+-- what `hold` requires: the buffer of a line, and a part of a piece
 pub record HoldAsks (line piece : List ℕ) (from end : ℕ) : Type 0 where
   pub line-size : length line ≡ longest
   pub forward : from ≤ end
@@ -63,7 +63,7 @@ pub record Holds (line : List ℕ) (held : ℕ) (part : List ℕ) (r : ℕ) (lin
 abbrev pub mostWritten : ℕ
 mostWritten = 69
 
--- The machine stands at m: what is answered, and what the buffers hold. From there it goes on as m does.
+-- The machine stands at m: what is returned, and what the buffers hold. From there it goes on as m does.
 pub record Stands (m : Machine) (feed : Feed) (written : ℕ) (table out lineNext tableNext outNext : List ℕ) : Type 0 where
   pub feed-is : feed ≡ keptFeed m
   pub written-is : written ≡ length (writtenBy m)
@@ -119,7 +119,7 @@ pub record Feeds (feed : Feed) (piece : List ℕ) (at : ℕ) (line table out : L
   pub held : lineNext ≡ lineAfter feed piece at line
   pub stands : Stands (fed (machineOf feed line table) (partFrom piece at)) (r .feed) (r .written) table out lineNext tableNext outNext
 
--- what is written where no more lines come
+-- what is written when no more lines come
 unfoldable pub missing : KeptStage → List ℕ
 missing AtHeader = refusalLine 1 10
 missing (AtStart h) = refusalLine 2 10
@@ -133,9 +133,9 @@ pub record Finishes (m : Machine) (table out : List ℕ) (r : ℕ) (tableNext ou
   pub text : outNext ≡ sets out 0 (finished m)
 
 -- What the calls on pieces write, as their contracts have it: the calls that a caller makes from some point on, to the end of the
--- input. It holds `feed`, the state that was answered last, and the buffers `line` and `table`. Of the input are left `pieces`, the
--- first of them from its place `at` on. A call is lent a buffer `out`, and writes as much of it as it answers; the next call takes
--- its answer, and the buffers as it left them. `text` is all that is written, put together.
+-- input. It holds `feed`, the state that was returned last, and the buffers `line` and `table`. What is left of the input is `pieces`, the
+-- first of them from its place `at` on. A call is lent a buffer `out`, and writes as much of it as it returns; the next call takes
+-- its result, and the buffers as it left them. `text` is all that is written, put together.
 pub data CallsWrite : (feed : Feed) (line table : List ℕ) (at : ℕ) (pieces : List (List ℕ)) (text : List ℕ) → Type 0 where
   -- `feed_from` on the first piece, from the place on
   feeds : {feed : Feed} {piece line table out lineNext tableNext outNext text : List ℕ} {at : ℕ} {others : List (List ℕ)} {r : Fed}

@@ -20,7 +20,7 @@ pub data Machine : Type 0 where
   reading : Stage → List ℕ → List ℕ → Machine
   stopped : List ℕ → Machine
 
--- as much as is held of a line: one character more than the longest line has, 4 and 4 for each of 16·5·25 words
+-- as much as is held of a line: one character more than the longest line has, which is 4, and 4 for each of 16·5·25 words
 abbrev pub longest : ℕ
 longest = 8005
 

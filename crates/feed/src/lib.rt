@@ -13,7 +13,7 @@ use runfile::Stage;
 use runfile::line_taken;
 use text::lines::line_end;
 
-// One more than the digits of the longest line: 4 and 4 for each of 16·5·25 words.
+// One more than the digits of the longest line, which has 4, and 4 for each of 16·5·25 words.
 const LONGEST: usize = 8005;
 
 // Where a run stands between two pieces: the run, and how many characters are held of the unfinished line; or a line was refused.
@@ -22,7 +22,7 @@ pub enum Feed {
     Stopped,
 }
 
-// What a part of a piece answers: how to go on, from which place of the piece on, and how long the text is that it writes.
+// What feeding a part of a piece returns: how to go on, from which place of the piece on, and how long the text is that it writes.
 pub struct Fed {
     pub feed: Feed,
     pub next: usize,
@@ -50,7 +50,7 @@ fn keep(line: &mut [u8], held: usize, piece: &[u8], from: usize, count: usize)
     }
 }
 
-// Holds a part of a piece behind what is held of the line, as far as there is room, and answers how much is held then.
+// Adds a part of a piece to what is held of the line, as far as there is room, and returns how much is then held.
 fn hold(line: &mut [u8], held: usize, piece: &[u8], from: usize, end: usize) -> usize
     requires { ⌜ HoldAsks (now line) (now piece) from end ⌝ }
     ensures { λ r. ⌜ Holds (now (line .entry)) held (take (end - from) (drop from (now (piece .entry)))) r (now (line .exit)) ⌝ }
@@ -119,7 +119,7 @@ fn feed_part(
     end_line(stage, line, count, table, out)
 }
 
-// Feeds a piece from a place on, up to and with the next line feed, or to its end. A line that ends there is taken.
+// Feeds a piece from a place on, up to and including the next line feed, or to its end. A line that ends there is taken.
 pub fn feed_from(
     feed: Feed,
     piece: &[u8],
@@ -188,7 +188,7 @@ fn finish_line(
     }
 }
 
-// Writes what is left to write where the input ends, and answers how long it is.
+// Writes what is left to write when the input ends, and returns how long it is.
 pub fn finish(feed: Feed, line: &[u8; 8005], table: &mut [u16; 400], out: &mut [u8; 69]) -> usize
     ensures { λ r. ⌜ Finishes (machineOf feed (now (line .entry)) (now (table .entry)))
         (now (table .entry)) (now (out .entry)) r (now (table .exit)) (now (out .exit)) ⌝ }

@@ -12,7 +12,7 @@ said h = record { n = h .n; f = h .f; c = h .c; set = h .set }
 abbrev pub kept : Said → Header
 kept h = record { n = h .n; f = h .f; c = h .c; set = h .set }
 
--- the n records of a header that passes its tests stand in a table, from its start on
+-- the n records of a header that passes its tests are in a table, from its start on
 pub record Tabled (h : Header) (table : List ℕ) : Type 0 where
   pub passes : headerTests (said h) ≡ 0
   pub room : startWords (said h) ≤ length table

@@ -65,7 +65,7 @@ pub fn start_line_refusal(h: Header, line: &[u8]) -> u32
     frame_refusal(line, start_words(h), 0)
 }
 
-// 11 where the beat is not the next one, "and so is any well-formed line after beat fffe" (RULES 11.5).
+// 11 if the beat is not the next one, "and so is any well-formed line after beat fffe" (RULES 11.5).
 pub fn beat_line_refusal(h: Header, beat: u16, line: &[u8]) -> u32
     requires { ⌜ headerTests (said h) ≡ 0 ⌝ }
     ensures { λ r. ⌜ r ≡ beatLineRefusal (said h) beat (now (line .entry)) ⌝ }

@@ -45,7 +45,7 @@ pub fn put_line(h: Header, beat: u16, table: &[u16], out: &mut [u8; 69]) -> usiz
     end + 1
 }
 
-// Writes the line of a refusal, and answers its length: "ffff, the number of the line (8 digits) and the refusal (2 digits)"
+// Writes the line of a refusal, and returns its length: "ffff, the number of the line (8 digits) and the refusal (2 digits)"
 // (RULES 11.5).
 pub fn put_refusal(number: u32, refusal: u32, out: &mut [u8; 69]) -> usize
     ensures { λ r. ⌜ (r ≡ length (refusalLine number refusal))

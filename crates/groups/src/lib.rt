@@ -41,7 +41,7 @@ fn step_split(recs: &[u16], g: Group, card: usize, out: &mut [u16])
 }
 
 // RULES 5.7: "The card's own half also steps, as a group, on the records of that half."
-// Half 0 has f = 0 where its group has 2 or less, half 1 where it has 1.
+// Half 0 has f = 0 if its group's f is at most 2, half 1 if it is 1.
 fn step_half(recs: &[u16], g: Group, card: usize, row: Row, out: &mut [u16])
     requires { ⌜ (LevelAsks (length (now recs)) g card row) × (g .base + recordWords (g .f) ≤ length (now out)) ⌝ }
     ensures { λ _. ⌜ WritesHalf (now (recs .entry)) g card (now (out .entry)) (now (out .exit)) ⌝ }

@@ -6,7 +6,7 @@ ghost use Rattle.rules.specs.Lag.{ahead};
 ghost use Rattle.rules.specs.Calls.{lagAnswer};
 ghost use Rattle.lag.specs.Counts.{Counts};
 
-// How far one goes on from y to come to x.
+// How far one has to count on from y to get to x.
 fn turn_ahead(c: u32, x: u32, y: u32) -> u32
     requires { ⌜ Counts c x y ⌝ }
     ensures { λ r. ⌜ (r < c) × (r ≡ ahead c x y) ⌝ }
@@ -30,7 +30,7 @@ pub fn lag_refusal(c: u32, x: u32, y: u32) -> u32
     0
 }
 
-// The lag of x against y, 0 where it is refused.
+// The lag of x against y, 0 if it is refused.
 pub fn lag_of(c: u32, x: u32, y: u32) -> i32
     ensures { λ r. ⌜ r ≡ lagAnswer c x y ⌝ }
 {

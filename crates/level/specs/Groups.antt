@@ -9,7 +9,7 @@ use Rattle.params.specs.Answers.{rowRead}
 use Rattle.columns.specs.declared.Column.{Column}
 use Rattle.level.specs.declared.group.Group.{Group}
 
--- what is heard of the group's cards
+-- what is heard from the group's cards
 abbrev pub heardBy : List ℕ → Group → ℕ → ℕ → ℕ
 heardBy recs g = heardFrom (heardIn (g .w) recs) (g .first) (g .base)
 
@@ -34,7 +34,7 @@ halfGroup i g =
 abbrev pub outputsOf : Group → Column
 outputsOf g = columnOf g (outputPlace (g .f))
 
--- the group lies within a table of so many words, and its f is allowed
+-- the group lies within a table of that many words, and its f is allowed
 pub record Fits (size : ℕ) (g : Group) : Type 0 where
   pub table : g .cards * g .w ≤ size
   pub rows : g .first + g .n ≤ g .cards
@@ -51,25 +51,25 @@ pub record Split (size : ℕ) (g : Group) : Type 0 where
   pub fits : Fits size g
   pub some : 1 ≤ g .f
 
--- what the routines ask that make half i of a group with the modulus m
+-- what is required to make half i of a group with the modulus m
 pub record HalfAsks (i : ℕ) (g : Group) (m : ℕ) : Type 0 where
   pub some : 1 ≤ g .f
   pub narrow : g .base < 256
   pub modulus : m ≡ halfModulus i (g .f)
 
--- what is asked where a card's word j of a split group is read
+-- what is required to read a card's word j of a split group
 pub record WordAsks (size : ℕ) (g : Group) (card j : ℕ) : Type 0 where
   pub split : Split size g
   pub member : card < g .n
   pub place : j < 8
 
--- what is asked where a card's level is read or computed: a card of a split group, and the row of the table for its f
+-- what is required to read or compute a card's level: a card of a split group, and the row of the table for its f
 pub record LevelAsks (size : ℕ) (g : Group) (card : ℕ) (row : Row) : Type 0 where
   pub split : Split size g
   pub member : card < g .n
   pub row-is : row ≡ rowRead (g .f)
 
--- what `next_vote` asks: a half of a split group, and its modulus
+-- what `next_vote` requires: a half of a split group, and its modulus
 pub record NextVoteAsks (size : ℕ) (g : Group) (half m : ℕ) : Type 0 where
   pub split : Split size g
   pub a-half : half < 2

@@ -61,7 +61,7 @@ pub fn half_one(g: Group, c1: u16) -> Group
     }
 }
 
-// Where the output stands in a group's words: in its one word, or in the seventh of its eight.
+// Where the output is in a group's words: in its one word, or in the seventh of its eight.
 pub fn output_place(f: u32) -> usize
     ensures { λ r. ⌜ (r ≡ outputPlace f) × (r ≤ 6) ⌝ }
 {

@@ -45,7 +45,7 @@ fn wait_after(old: Vote, new: Vote, m: u16, wait: u16, restart: u16) -> u16
 }
 
 impl Level {
-    // Half 0 has voted: M0 is new, and w0 goes by the old M0 and the new.
+    // Half 0 has voted: M0 is new, and w0 depends on the old M0 and the new one.
     fn voted_zero(self, new: Vote, row: Row) -> Level
         requires { ⌜ 0 < row .c0 ⌝ }
         ensures { λ r. ⌜ r ≡ votedZero self new (row .c0) (row .restart) ⌝ }
@@ -66,7 +66,7 @@ impl Level {
         }
     }
 
-    // The same of half 1.
+    // The same for half 1.
     fn voted_one(self, new: Vote, row: Row) -> Level
         requires { ⌜ 0 < row .c1 ⌝ }
         ensures { λ r. ⌜ r ≡ votedOne self new (row .c1) (row .restart) ⌝ }

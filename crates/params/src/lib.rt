@@ -31,7 +31,7 @@ pub struct Row {
     pub beats: u16,
 }
 
-// What is answered of n and f: the refusal, and a row that is all 0 where there is one.
+// What is returned for n and f: the refusal, and a row, which is all 0 if there is one.
 pub struct Parameters {
     pub refusal: u32,
     pub row: Row,

@@ -11,7 +11,7 @@ use Rattle.rules.specs.WholeBeat.{isBroken, brokenBelow, recordAfter}
 use Rattle.rules.specs.Refusals.{beatRefusal}
 use Rattle.rack.specs.declared.Rack.{Rack}
 
--- so many words of a list, from a place on
+-- that many words of a list, from a place on
 abbrev pub wordsFrom : List ℕ → ℕ → ℕ → List ℕ
 wordsFrom from at count = tabulate count (λ (j : ℕ). getD from (at + j) 0)
 
@@ -28,7 +28,7 @@ abbrev pub SoundAsHeld : Rack → List ℕ → List ℕ → Type 0
 SoundAsHeld r held heard =
     (u j : ℕ) → isBroken (r .set) u ≡ false → j < size r → heardIn (size r) heard u j ≡ heardIn (size r) held u j
 
--- the broken cards below the card `end` are heard by the receiver v as they send: "for each receiver in order, for each
+-- the receiver v hears the broken cards below the card `end` as they send: "for each receiver in order, for each
 -- broken card in order, W words" (RULES 6)
 abbrev pub BrokenAsSent : Rack → List ℕ → ℕ → ℕ → List ℕ → Type 0
 BrokenAsSent r sent v end heard =

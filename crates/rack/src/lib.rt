@@ -13,7 +13,7 @@ pub mod broken; // broken.rt: the broken set
 // The words of the largest table: 16 records of 25.
 const MOST_WORDS: usize = 400;
 
-// What a beat is run on, beside the records.
+// What a beat is run on, besides the records.
 struct Rack {
     n: u32,
     f: u32,

@@ -1,4 +1,4 @@
--- What each call answers, and what it leaves in the caller's buffer. RULES 9.3: "A refused call's value is 0, and the output
+-- What each call returns, and what it leaves in the caller's buffer. RULES 9.3: "A refused call's value is 0, and the output
 -- buffer keeps its contents."
 use Prim.Native.Nat.{ℕ, zero, suc, _+_, _*_}
 use mathlib.Core.Bool.{cond}
@@ -18,11 +18,11 @@ use Rattle.rules.specs.Text.{textOf, wordsAt}
 use Rattle.rules.specs.Refusals.{shapeRefusal, stepRefusal, stepBytesRefusal, beatRefusal, shownRefusal, lagRefusal, writeRefusal}
 use Rattle.rules.specs.Refusals.{readRefusal}
 
--- the one where nothing is refused, else the other
+-- the first if nothing is refused, else the second
 abbrev pub unlessRefused : {A : Type 0} → ℕ → A → A → A
 unlessRefused refusal done kept = cond (eqb refusal 0) done kept
 
--- what is answered of n and f: t, c0, c1, the cooldown's start, W and T
+-- what is returned for n and f: t, c0, c1, the cooldown's start, W and T
 pub record Parameters : Type 0 where
   pub turn : ℕ
   pub c0 : ℕ

@@ -16,7 +16,7 @@ unfoldable pub largestBelow : ℕ → (ℕ → ℕ) → ℕ
 largestBelow zero g = 0
 largestBelow (suc n) g = max (largestBelow n g) (g n)
 
--- the first, or the second where the first is none
+-- the first, or the second if the first is none
 unfoldable pub orElse : Vote → Vote → Vote
 orElse (Count x) other = Count x
 orElse None other = other

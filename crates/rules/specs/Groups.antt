@@ -32,7 +32,7 @@ halfModulus i f = atHalf i (c0 f) (c1 f)
 abbrev pub halfOf : ℕ → ℕ → ℕ
 halfOf n card = cond (ltb card (n / 2)) 0 1
 
--- What is heard: the word j of the sender u. Of a half it is what is heard from the half's first card on, past the eight
+-- What is heard: the word j of the sender u. For a half it is what is heard from the half's first card on, past the eight
 -- words of the group around it. RULES 1: "Cards are numbered from 0 within the group in question."
 -- RULES 4.1: "the outermost group first"
 abbrev pub heardFrom : (ℕ → ℕ → ℕ) → ℕ → ℕ → ℕ → ℕ → ℕ
@@ -41,11 +41,11 @@ heardFrom hear first base u j = hear (first + u) (base + j)
 abbrev pub heardInHalf : ℕ → ℕ → (ℕ → ℕ → ℕ) → ℕ → ℕ → ℕ
 heardInHalf i n hear = heardFrom hear (halfFirst i n) 8
 
--- where the word j of the card u stands in a table of records of w words
+-- where the word j of the card u is in a table of records of w words
 abbrev pub place : ℕ → ℕ → ℕ → ℕ
 place w u j = u * w + j
 
--- what is heard where the records stand one after the other
+-- what is heard if the records are one after the other
 abbrev pub heardIn : ℕ → List ℕ → ℕ → ℕ → ℕ
 heardIn w records u j = getD records (place w u j) 0
 
@@ -67,7 +67,7 @@ abbrev pub outputPlace : ℕ → ℕ
 outputPlace f = cond (eqb f 0) 0 6
 
 -- How many words of the record the card of the group uses. RULES 4.1: "Words beyond these are written 0 and never read."
--- f falls on each round, so that k > f rounds are enough
+-- f gets smaller on each round, so k > f rounds are enough
 unfoldable pub ownWords : ℕ → ℕ → ℕ → ℕ → ℕ
 ownWords zero n f card = 0
 ownWords (suc k) n zero card = 1

@@ -4,7 +4,7 @@ use mathlib.Core.Bool.{cond}
 use lib.Dec.{leb}
 use lib.IntN.{ℤ, pos, negℤ}
 
--- how far one goes on from y to come to x, on a circle of c
+-- how far one has to count on from y to get to x, on a circle of c
 abbrev pub ahead : ℕ → ℕ → ℕ → ℕ
 ahead c x y = cond (leb y x) (x - y) (x + c - y)
 

@@ -23,7 +23,7 @@ sentBy n heard y = countBelow n (λ (u : ℕ). same (heard u) y)
 unfoldable pub enough : ℕ → ℕ → ℕ → Bool
 enough n f cards = leb n (cards + f)
 
--- the largest number of n cards that sent one same value below m
+-- the largest number of n cards that sent the same value below m
 unfoldable pub mostSent : ℕ → ℕ → (ℕ → Vote) → ℕ
 mostSent m n heard = largestBelow m (λ (x : ℕ). sentBy n heard (Count x))
 
@@ -61,7 +61,7 @@ unfoldable pub pointer : ℕ → Vote → Vote
 pointer part (Count d) = Count (d / part)
 pointer part None = None
 
--- dp, or none where there is no pointer
+-- dp, or none if there is no pointer
 unfoldable pub pointed : Vote → Vote → Vote → Vote
 pointed (Count p) d0 d1 = atHalf p d0 d1
 pointed None d0 d1 = None
@@ -153,7 +153,7 @@ unfoldable pub leafNext : ℕ → (ℕ → ℕ → ℕ) → ℕ
 leafNext c hear = plusOne c (countOr0 (outputOf 0 c (hear 0)))
 
 -- A group's words after the beat, those of the card's own half last. RULES 5.7: "The card's own half also steps, as a group, on
--- the records of that half." f falls on each round, so that k > f rounds are enough
+-- the records of that half." f gets smaller on each round, so k > f rounds are enough
 unfoldable pub groupNext : ℕ → ℕ → ℕ → ℕ → (ℕ → ℕ → ℕ) → ℕ → List ℕ
 groupNext zero n f c hear card = []
 groupNext (suc k) n zero c hear card = leafNext c hear ∷ []

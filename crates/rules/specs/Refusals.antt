@@ -1,5 +1,5 @@
 -- RULES 9.1: "They are tested in this order, and the first that applies is given." RULES 9.2: "Each call tests what concerns
--- its own inputs and nothing else." Lengths are in words, in bytes where the name says so.
+-- its own inputs and nothing else." Lengths are in words, or in bytes if the name says so.
 use Prim.Native.Nat.{ℕ, _*_}
 use mathlib.Core.Bool.{Bool, cond, not, _||_}
 use mathlib.Core.List.{List}
@@ -9,7 +9,7 @@ use Rattle.rules.specs.Parameters.{recordWords, badCards, badBroken, bad
 use Rattle.rules.specs.WholeBeat.{badSet, sentWords}
 use Rattle.rules.specs.Text.{wellFormed, hasLine}
 
--- "given exactly when": the number where the test holds, else what is left
+-- "given exactly when": the number if the test holds, else what is left
 abbrev pub given : ℕ → Bool → ℕ → ℕ
 given number test others = cond test number others
 

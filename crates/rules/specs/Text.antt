@@ -10,7 +10,7 @@ use Rattle.rules.specs.Counting.{rows, tabulate}
 unfoldable pub digitOf : ℕ → ℕ
 digitOf x = cond (ltb x 10) (48 + x) (87 + x)
 
--- RULES 9.1, refusal 10: "a character other than 0-9 and a-f" is none
+-- RULES 9.1, refusal 10: "a character other than 0-9 and a-f" is not a digit
 unfoldable pub isDigit : ℕ → Bool
 isDigit ch = (leb 48 ch && leb ch 57) || (leb 97 ch && leb ch 102)
 

@@ -25,7 +25,7 @@ badSet n f set = leb (2 ^ n) set || ltb f (brokenBelow set n)
 abbrev pub sentWords : ℕ → ℕ → ℕ → ℕ
 sentWords n f set = n * (brokenBelow set n) * recordWords f
 
--- What the receiver v hears of u. RULES 6: "for each receiver in order, for each broken card in order, W words"; "A sound card is
+-- What the receiver v hears from u. RULES 6: "for each receiver in order, for each broken card in order, W words"; "A sound card is
 -- heard as held"
 unfoldable pub heardOnBeat : ℕ → ℕ → ℕ → List ℕ → List ℕ → ℕ → ℕ → ℕ → ℕ
 heardOnBeat n f set held sent v u j =

@@ -32,7 +32,7 @@ recordsAfter h table sent = tableAfter (h .n) (h .f) (h .c) (h .set) (take (star
 abbrev pub tableNext : Header → List ℕ → List ℕ → List ℕ
 tableNext h table line = recordsAfter h table (wordsAt line 4 (beatWords h))
 
--- what is kept of a run beside its records, and its records
+-- what is kept of a run besides its records, and its records
 unfoldable pub keptOf : Stage → KeptStage
 keptOf atHeader = AtHeader
 keptOf (atStart h) = AtStart (kept h)
@@ -59,7 +59,7 @@ stageTests (atBeat h beat table) = headerTests h
 unfoldable pub takenLine : Stage → List ℕ → Taken
 takenLine stage line = orRefused (stageTests stage) (takeLine stage line)
 
--- what a line answers, where the run stands at `run` before it; what it writes to the table, and what it writes out
+-- what a line returns, if the run stands at `run` before it; what it writes to the table, and what it writes out
 unfoldable pub answerOf : KeptStage → Taken → Answer
 answerOf stage (accepted next text) = record { refusal = 0; stage = keptOf next; written = length text }
 answerOf stage (refused refusal) = record { refusal = refusal; stage = stage; written = 0 }

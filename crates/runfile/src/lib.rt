@@ -1,4 +1,4 @@
-// A run, one line after the other (RULES 11). The n records stand in the caller's table, from its start on.
+// A run, one line after the other (RULES 11). The n records are in the caller's table, from its start on.
 ghost use mathlib.Core.Path.{_≡_};
 ghost use mathlib.Core.Bool.{true};
 ghost use Prim.Native.Nat.{_≤_};
@@ -20,7 +20,7 @@ pub enum Stage {
     AtBeat(Header, u16),
 }
 
-// What a line answers: its refusal, 0 if it is accepted, the run after it, and how long its output line is.
+// What a line returns: its refusal, 0 if it is accepted, the run after it, and how long its output line is.
 pub struct Taken {
     pub refusal: u32,
     pub stage: Stage,
@@ -150,7 +150,7 @@ fn take_beat(h: Header, beat: u16, line: &[u8], table: &mut [u16], out: &mut [u8
     }
 }
 
-// One line, of a table that is long enough for any rack.
+// One line, with a table that is long enough for any rack.
 pub fn line_taken(stage: Stage, line: &[u8], table: &mut [u16], out: &mut [u8; 69]) -> Taken
     requires { ⌜ 400 ≤ length (now table) ⌝ }
     ensures { λ r. ⌜ Takes stage (takenLine (stageOf stage (now (table .entry))) (now (line .entry)))
@@ -171,7 +171,7 @@ pub fn line_taken(stage: Stage, line: &[u8], table: &mut [u16], out: &mut [u8; 6
     }
 }
 
-// Takes one line: it is accepted, and its output line is written, or it is refused, and nothing is.
+// Takes one line: it is accepted, and its output line is written, or it is refused, and nothing is written.
 pub fn take_line(stage: Stage, line: &[u8], table: &mut [u16; 400], out: &mut [u8; 69]) -> Taken
     ensures { λ r. ⌜ Takes stage (takenLine (stageOf stage (now (table .entry))) (now (line .entry)))
         (now (table .entry)) (now (out .entry)) r (now (table .exit)) (now (out .exit)) ⌝ }

@@ -14,7 +14,7 @@ pub record Cards (n f : ℕ) (sound : ℕ → Bool) : Type 0 where
   pub few : 3 * f < n
   pub broken : countBelow n (λ u. not (sound u)) ≤ f
 
--- `words r v j` is the word j of the card v after r beats, `hear r v u j` what v hears of u on the beat that follows. Nothing is
+-- `words r v j` is the word j of the card v after r beats, `hear r v u j` what v hears from u on the beat that follows. Nothing is
 -- said of a card that is not sound: it may hold anything, and send anything to each card. The fuel only has to be enough for the
 -- definition of a group's next words
 pub record Run (n f c : ℕ) (sound : ℕ → Bool) : Type 0 where

@@ -15,7 +15,7 @@ use Rattle.rules.specs.Lag.{lagOf}
 use Rattle.settle.specs.Run.{Cards, Run, tableAt}
 
 -- From all starting words, whatever the broken cards send to each card, there is an x below c such that after T(f) + k beats
--- every sound card shows (x + k) modulo c. The word for none must be no count of a half: c1 ≤ 65,535
+-- every sound card shows (x + k) modulo c. The word for none must not be a count of a half: c1 ≤ 65,535
 abbrev pub Settles : Type 0
 Settles =
     (n f c : ℕ) (sound : ℕ → Bool) → Cards n f sound → c1 f ≤ noneWord → 2 ≤ c → c ≤ mostModulus
@@ -23,7 +23,7 @@ Settles =
     → (x : ℕ) × (x < c)
     × ((k v : ℕ) → v < n → sound v ≡ true → shownCount f c (R .words (settleBeats f + k) v) ≡ Count ((x + k) % c))
 
--- The same of whole beats, wherever these are accepted
+-- The same for whole beats, as long as they are accepted
 abbrev pub SettlesOnBeats : Type 0
 SettlesOnBeats =
     (n f c set : ℕ) (start : List ℕ) (sent : ℕ → List ℕ)
@@ -32,7 +32,7 @@ SettlesOnBeats =
     × ((k v : ℕ) → v < n → isBroken set v ≡ false
     → shownCount f c (heardIn (recordWords f) (tableAt n f c set start sent (settleBeats f + k)) v) ≡ Count ((x + k) % c))
 
--- Cards that hold one same count with b = 1 go on counting, whatever all others do: `members` are at least n-f cards of a
+-- Cards that hold the same count with b = 1 go on counting, whatever all others do: `members` are at least n-f cards of a
 -- split group
 abbrev pub Persists : Type 0
 Persists =

@@ -1,4 +1,4 @@
--- Where a line stands in a text, by the rules' own lines.
+-- Where a line is in a text, by the rules' own lines.
 use Prim.Native.Nat.{ℕ, suc, _+_, _-_, _≤_}
 use mathlib.Core.Path.{_≡_}
 use mathlib.Core.Bool.{cond}

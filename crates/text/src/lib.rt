@@ -8,7 +8,7 @@ ghost use Rattle.rules.specs.Refusals.{writeRefusal, readRefusal, lineRefusal};
 ghost use Rattle.rules.specs.Calls.{writeOut, readOut};
 use digits::words;
 
-pub mod lines; // lines.rt: where the lines of a text stand
+pub mod lines; // lines.rt: where the lines of a text are
 
 // Refusals 1, 2, 5 and 6.
 fn write_refusal(n: u32, f: u32, words: usize, out: usize) -> u32

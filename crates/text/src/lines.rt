@@ -1,11 +1,11 @@
-// Where the lines of a text stand. "Each line is ended by a line feed, which is not part of the line; the last line may lack
+// Where the lines of a text are. "Each line is ended by a line feed, which is not part of the line; the last line may lack
 // it." (RULES 10.3)
 ghost use mathlib.Core.Path.{_≡_};
 ghost use Rattle.text.specs.Lines.{endFrom, Placed};
 
 const LINE_FEED: u8 = 10;
 
-// Where a line stands, and whether there is one: nowhere is an empty part.
+// Where a line is, and whether there is one: a missing line is an empty part.
 pub(crate) struct Place {
     pub(crate) found: bool,
     pub(crate) start: usize,

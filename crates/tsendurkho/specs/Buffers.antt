@@ -1,4 +1,4 @@
--- The buffers of words by way of which a step on bytes goes.
+-- The buffers of words that a step on bytes goes through.
 use mathlib.Core.Path.{_≡_}
 use mathlib.Core.List.{List}
 use Prim.Native.Nat.{ℕ, _*_}

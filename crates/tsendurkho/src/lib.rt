@@ -20,7 +20,7 @@ const MOST_TABLE: usize = 400;
 // n·W of 7 cards with f = 1, and one more.
 const FEW_WORDS: usize = 64;
 
-// The step by way of words, where it is not refused: those of the records heard, and those of the next record.
+// A step that is not refused, on words: those of the records heard, and those of the next record.
 fn step_words(
     n: u32,
     f: u32,
@@ -40,7 +40,7 @@ fn step_words(
     wordbytes::encode(next, out);
 }
 
-// The step where it is not refused, of a rack whose table is small: to clear the largest buffer would cost it 7 % more.
+// A step that is not refused, of a rack whose table is small: clearing the largest buffer would cost it 7 % more.
 fn step_few(n: u32, f: u32, c: u32, card: u32, records: &[u8], out: &mut [u8])
     requires { ⌜ (stepBytesRefusal n f c card (length (now records)) (length (now out)) ≡ 0) × (length (now records) ≤ 128) ⌝ }
     ensures { λ _. ⌜ now (out .exit) ≡ stepBytesOut n f c card (now (records .entry)) (now (out .entry)) ⌝ }
@@ -61,7 +61,7 @@ fn step_few(n: u32, f: u32, c: u32, card: u32, records: &[u8], out: &mut [u8])
     );
 }
 
-// The same of any rack.
+// The same for any rack.
 fn step_many(n: u32, f: u32, c: u32, card: u32, records: &[u8], out: &mut [u8])
     requires { ⌜ stepBytesRefusal n f c card (length (now records)) (length (now out)) ≡ 0 ⌝ }
     ensures { λ _. ⌜ now (out .exit) ≡ stepBytesOut n f c card (now (records .entry)) (now (out .entry)) ⌝ }
@@ -115,7 +115,7 @@ pub extern "C" fn tsendurkho_lag_refusal(c: u32, x: u32, y: u32) -> u32
     lag::lag_refusal(c, x, y)
 }
 
-// The lag of x against y, 0 where it is refused.
+// The lag of x against y, 0 if it is refused.
 #[no_mangle]
 pub extern "C" fn tsendurkho_lag(c: u32, x: u32, y: u32) -> i32
     ensures { λ r. ⌜ r ≡ lagAnswer c x y ⌝ }

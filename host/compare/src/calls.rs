@@ -24,7 +24,7 @@ pub trait Defined: Call {
     fn answered(&self, value: Option<Self::Value>) -> Value;
 }
 
-/// How many calls of a case are asked for their refusal alone, which costs next to nothing.
+/// How many calls of a case are asked only for their refusal, which costs next to nothing.
 const REFUSED: usize = 8;
 
 /// A call, in every third case refused, and some more refusals.

@@ -12,7 +12,7 @@ use lib.IntN.{pos, negsuc}
 use Rattle.rules.specs.declared.Vote.the-variants.{Count, None}
 ";
 
-/// How many cases stand in one file.
+/// How many cases there are in one file.
 const BATCH: usize = 25;
 
 /// The files of a crate of claims, each with its name. The number of a case is its place.

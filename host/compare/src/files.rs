@@ -16,7 +16,7 @@ const WORDS: usize = 8;
 const FIRST_LINES: usize = 8;
 const DAMAGED: usize = 4;
 
-/// Words of four digits, every second one with a character that is no digit.
+/// Words of four digits, every second one with a character that is not a digit.
 pub fn digits(random: &mut Random) -> Case {
     let mut case = Case::new("words of four characters".to_string());
     for place in 1..=WORDS {
@@ -66,7 +66,7 @@ pub fn one_line(random: &mut Random) -> Case {
         )
 }
 
-/// Files of a first line alone, whose numbers are not all good.
+/// Files of only a first line, whose numbers are not all good.
 pub fn first_lines(random: &mut Random) -> Case {
     let mut texts = Vec::new();
     for _ in 0..FIRST_LINES {
@@ -98,7 +98,7 @@ pub fn damaged_files(random: &mut Random) -> Case {
     outputs_of(&texts)
 }
 
-/// A file of at most three beats with at most so many cards: with more of them the texts grow
+/// A file of at most three beats with at most that many cards: with more of them the texts grow
 /// long, and a definition finds a character by counting up to it.
 fn short_file(random: &mut Random, cards: u32) -> RunFile {
     let shape = small_shape(random, cards);

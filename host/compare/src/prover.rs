@@ -17,7 +17,7 @@ pub struct Repository {
 pub type Refused = BTreeMap<String, String>;
 
 impl Repository {
-    /// Made anew beside what else is built, with a copy of the rules' definitions.
+    /// Made again beside what else is built, with a copy of the rules' definitions.
     pub fn new(root: &Path) -> io::Result<Repository> {
         let folder = root.join("target/compare");
         match fs::remove_dir_all(&folder) {
@@ -37,20 +37,20 @@ impl Repository {
     }
 
     /// Asks for a proof of a crate with these files of claims. An error that is not about one of
-    /// the claims is handed back as it was told.
+    /// the claims is handed back as it was printed.
     pub fn refused(&self, name: &str, files: &[(String, String)]) -> io::Result<Refused> {
         self.write_crate(name, files)?;
         let mut prover = Command::new("rt");
         prover.args(["check", name]).current_dir(&self.folder);
-        let told = prover.output().map_err(|error| {
+        let ended = prover.output().map_err(|error| {
             io::Error::new(
                 error.kind(),
                 format!("the prover rt does not start: {error}"),
             )
         })?;
-        let said = String::from_utf8_lossy(&told.stdout);
+        let said = String::from_utf8_lossy(&ended.stdout);
         let refused = refused_claims(&said);
-        match (told.status.code(), refused.is_empty()) {
+        match (ended.status.code(), refused.is_empty()) {
             (Some(0), true) | (Some(1), false) => Ok(refused),
             _ => Err(io::Error::new(ErrorKind::Other, said)),
         }

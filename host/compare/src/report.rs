@@ -1,4 +1,4 @@
-//! What is told of the prover's verdict.
+//! What is reported of the prover's verdict.
 
 use crate::case::Case;
 use crate::claims::{claim_name, claim_names};
@@ -7,7 +7,7 @@ use crate::prover::Refused;
 
 /// Each case that is refused: its inputs, and what the second implementation and the prover say.
 pub fn differences(cases: &[Case], refused: &Refused) -> String {
-    let mut told = String::new();
+    let mut report = String::new();
     for (number, case) in cases.iter().enumerate() {
         let (kind, _) = kind_of(number);
         for equation in &case.equations {
@@ -19,11 +19,11 @@ pub fn differences(cases: &[Case], refused: &Refused) -> String {
                     equation.term,
                     equation.value,
                 );
-                told += &difference;
+                report += &difference;
             }
         }
     }
-    told + &format!("compare: {} equations do not hold\n", refused.len())
+    report + &format!("compare: {} equations do not hold\n", refused.len())
 }
 
 /// The figures, or an error where a wrong value was not refused.

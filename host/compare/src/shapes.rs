@@ -4,7 +4,7 @@ use generate::{Random, Shape};
 use second::group::Group;
 use second::params::MOST_CARDS;
 
-/// A shape with at most so many cards, and seldom a large modulus: the smallest count heard more
+/// A shape with at most that many cards, and rarely a large modulus: the smallest count heard more
 /// than f times is defined by a walk through all counts.
 pub fn small_shape(random: &mut Random, cards: u32) -> Shape {
     loop {

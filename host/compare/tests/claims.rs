@@ -95,16 +95,16 @@ rt: cases NOT PROVED (exit 1, 0 s)
 fn a_refused_claim_is_told_with_its_inputs() {
     let refused = refused_claims(SAID);
     assert_eq!(refused.keys().collect::<Vec<_>>(), ["case1-lag"]);
-    let told = differences(&[lag(2), lag(3), lag(2)], &refused);
+    let report = differences(&[lag(2), lag(3), lag(2)], &refused);
     let wanted = "case 1, the halves of a group: lag\n\
                   inputs: 1 against 7\n\
                   definition: lagAnswer 8 1 7\n\
                   second implementation: pos 3\n\
                   Batch0.antt:18:9: error: ";
-    assert!(told.starts_with(wanted), "{told}");
-    assert!(told.contains("\n  computed as far as they go"));
-    assert!(!told.contains("logic=not-proved"));
-    assert!(told.ends_with("compare: 1 equations do not hold\n"));
+    assert!(report.starts_with(wanted), "{report}");
+    assert!(report.contains("\n  computed as far as they go"));
+    assert!(!report.contains("logic=not-proved"));
+    assert!(report.ends_with("compare: 1 equations do not hold\n"));
 }
 
 #[test]
@@ -117,12 +117,12 @@ fn another_error_is_no_refused_claim() {
 fn wrong_values_that_are_not_refused_are_an_error() {
     let (cases, wrong) = ([lag(2), lag(2)], [lag(3), lag(3)]);
     let mut refused = refused_claims(SAID);
-    let told = figures(&cases, &wrong, &refused).unwrap_err();
+    let report = figures(&cases, &wrong, &refused).unwrap_err();
     assert_eq!(
-        told,
+        report,
         "compare: wrong values are not refused: [\"case0-lag\"]\n"
     );
     refused.insert("case0-lag".to_string(), String::new());
-    let told = figures(&cases, &wrong, &refused).unwrap();
-    assert!(told.starts_with("compare: 2 cases, 2 equations, all as the definitions compute\n"));
+    let report = figures(&cases, &wrong, &refused).unwrap();
+    assert!(report.starts_with("compare: 2 cases, 2 equations, all as the definitions compute\n"));
 }

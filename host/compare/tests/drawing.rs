@@ -1,4 +1,4 @@
-//! The cases that are drawn: reproducible, of every kind, and telling.
+//! The cases that are drawn: reproducible, of every kind, and revealing.
 
 use std::collections::BTreeSet;
 

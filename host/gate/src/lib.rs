@@ -15,7 +15,7 @@ pub struct Copy {
 }
 
 impl Copy {
-    /// The scripts alone.
+    /// Only the scripts.
     pub fn of_scripts(name: &str) -> Copy {
         let folder = env::temp_dir().join(format!("gate-{}-{name}", std::process::id()));
         fs::create_dir(&folder).expect("a folder for the copy");
@@ -51,8 +51,7 @@ impl Copy {
 
     pub fn write(&self, file: &str, text: &str) {
         let path = self.path(file);
-        fs::create_dir_all(path.parent().expect("a file stands in a folder"))
-            .expect("a folder for it");
+        fs::create_dir_all(path.parent().expect("a file is in a folder")).expect("a folder for it");
         fs::write(path, text).expect("the file can be written");
     }
 
@@ -93,25 +92,30 @@ impl Ended {
         String::from_utf8_lossy(&self.0.stdout).into_owned()
     }
 
-    fn told(&self) -> String {
+    fn reported(&self) -> String {
         String::from_utf8_lossy(&self.0.stderr).into_owned()
     }
 
     pub fn assert_passed(&self) {
-        assert!(self.0.status.success(), "{}{}", self.printed(), self.told());
-        assert_eq!(self.told(), "");
+        assert!(
+            self.0.status.success(),
+            "{}{}",
+            self.printed(),
+            self.reported()
+        );
+        assert_eq!(self.reported(), "");
     }
 
-    /// It failed, and told these lines alone.
+    /// It failed, and reported these lines and no others.
     pub fn assert_told(&self, lines: &[&str]) {
         assert_eq!(
             self.0.status.code(),
             Some(1),
             "{}{}",
             self.printed(),
-            self.told()
+            self.reported()
         );
-        let told = self.told();
-        assert_eq!(told.lines().collect::<Vec<_>>(), lines);
+        let reported = self.reported();
+        assert_eq!(reported.lines().collect::<Vec<_>>(), lines);
     }
 }

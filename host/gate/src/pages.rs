@@ -71,7 +71,7 @@ pub fn names(cell: &str) -> impl Iterator<Item = &str> {
     quoted.filter(|name| !name.contains(' '))
 }
 
-/// The rows of a table with so many columns, without its head.
+/// The rows of a table with that many columns, without its head.
 pub fn rows(text: &str, columns: usize) -> Vec<Vec<String>> {
     let lines = text.lines().filter(|line| line.starts_with("| "));
     let cells = lines.map(|line| line.trim_matches('|').split('|').map(plain));

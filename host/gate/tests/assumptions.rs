@@ -12,7 +12,7 @@ fn copy(name: &str) -> Copy {
     let copy = Copy::of_scripts(name);
     copy.write(
         "crates.txt",
-        "# NAME: what it stands on\nlow:\nhigh: low\nprogram: high io libc\n",
+        "# NAME: what it depends on\nlow:\nhigh: low\nprogram: high io libc\n",
     );
     copy.write("crates/low/src/lib.rt", "");
     copy.write("crates/high/src/lib.rt", "");
@@ -23,7 +23,7 @@ fn copy(name: &str) -> Copy {
     copy
 }
 
-fn told(name: &str, sabotage: impl Fn(&Copy), line: &str) {
+fn reported(name: &str, sabotage: impl Fn(&Copy), line: &str) {
     let copy = copy(name);
     sabotage(&copy);
     copy.run(".ci/assumptions").assert_told(&[line]);
@@ -41,7 +41,7 @@ fn a_program_and_its_libraries() {
 
 #[test]
 fn a_library_that_reaches_an_assumed_contract() {
-    told(
+    reported(
         "reaches",
         |copy| copy.write("target/log/high.say", PROGRAM),
         "assumptions: high rests on libc::read, libc::write",
@@ -55,7 +55,7 @@ fn a_library_that_only_counts_or_declares() {
         ("axioms=1", "axioms=1"),
         ("foreign=low::write", "foreign=low::write"),
     ] {
-        told(
+        reported(
             "declares",
             |copy| {
                 copy.write(
@@ -70,7 +70,7 @@ fn a_library_that_only_counts_or_declares() {
 
 #[test]
 fn a_library_on_one_that_is_not_ours() {
-    told(
+    reported(
         "not-ours",
         |copy| {
             copy.write(
@@ -78,18 +78,18 @@ fn a_library_on_one_that_is_not_ours() {
                 "low: libc\nhigh: low\nprogram: high io libc\n",
             )
         },
-        "assumptions: low stands on libc, which is no library of ours",
+        "assumptions: low depends on libc, which is not a library of this repository",
     );
 }
 
 #[test]
 fn a_crate_without_a_verdict() {
-    told(
+    reported(
         "not-proved",
         |copy| copy.write("target/log/low.say", "logic=not-proved\n"),
         "assumptions: target/log/low.say has no verdict",
     );
-    told(
+    reported(
         "no-report",
         |copy| copy.remove("target/log/low.say"),
         "assumptions: target/log/low.say has no verdict",

@@ -1,4 +1,4 @@
-//! `.ci/contracts` passes as things are, and tells each way in which a public routine can be listed wrongly.
+//! `.ci/contracts` passes as things are, and reports each way in which a public routine can be listed wrongly.
 
 use gate::Copy;
 
@@ -8,14 +8,14 @@ const LEMMAS: &str = "crates/lag/proofs/Determined.antt";
 const LIST: &str = "docs/CONTRACTS.md";
 const REFUSAL: &str = "ensures { λ r. ⌜ r ≡ lagRefusal c x y ⌝ }";
 
-/// What is told of a copy with something wrong in it.
-fn told(name: &str, sabotage: impl Fn(&Copy), lines: &[&str]) {
+/// What is reported of a copy with something wrong in it.
+fn reported(name: &str, sabotage: impl Fn(&Copy), lines: &[&str]) {
     let copy = Copy::of_repository(name);
     sabotage(&copy);
     copy.run(".ci/contracts").assert_told(lines);
 }
 
-/// A copy with something in it that is no fault.
+/// A copy with something in it that is not a fault.
 fn passes(name: &str, change: impl Fn(&Copy)) -> String {
     let copy = Copy::of_repository(name);
     change(&copy);
@@ -34,7 +34,7 @@ fn the_list_as_it_is() {
 #[test]
 fn a_public_routine_with_a_requires() {
     let asks = format!("requires {{ ⌜ 2 ≤ c ⌝ }}\n    {REFUSAL}");
-    told(
+    reported(
         "requires",
         |copy| copy.replace(LAG, REFUSAL, &asks),
         &["contracts: lag::lag_refusal: a public routine has a requires"],
@@ -43,7 +43,7 @@ fn a_public_routine_with_a_requires() {
 
 #[test]
 fn a_public_routine_without_an_ensures() {
-    told(
+    reported(
         "no-ensures",
         |copy| copy.replace(LAG, REFUSAL, ""),
         &["contracts: lag::lag_refusal: it has no ensures"],
@@ -52,7 +52,7 @@ fn a_public_routine_without_an_ensures() {
 
 #[test]
 fn an_internal_routine_without_an_ensures() {
-    told(
+    reported(
         "internal-no-ensures",
         |copy| copy.replace(COLUMNS, "ensures { λ r. ⌜ r ≡ readVote m word ⌝ }", ""),
         &["contracts: columns::read_vote: it has no ensures"],
@@ -78,13 +78,13 @@ fn a_routine_that_is_not_listed() {
         ("crates/blockrun/src/main.rt", &plain, "blockrun::extra"),
     ] {
         let line = format!("contracts: {routine}: it is not listed");
-        told("not-listed", |copy| copy.append(file, code), &[&line]);
+        reported("not-listed", |copy| copy.append(file, code), &[&line]);
     }
 }
 
 #[test]
 fn a_routine_of_a_new_crate() {
-    told(
+    reported(
         "new-crate",
         |copy| {
             copy.append("crates.txt", "other: rules\n");
@@ -99,22 +99,22 @@ fn a_routine_of_a_new_crate() {
 
 #[test]
 fn a_row_of_no_routine() {
-    told(
+    reported(
         "no-routine",
         |copy| copy.replace(LAG, "pub fn lag_refusal", "fn lag_refusal"),
-        &["contracts: lag::lag_refusal: it is listed, and is no pub fn"],
+        &["contracts: lag::lag_refusal: it is listed, but is not a pub fn"],
     );
-    told(
+    reported(
         "no-internal-routine",
         |copy| copy.replace(COLUMNS, "pub fn read_vote", "pub(crate) fn read_vote"),
-        &["contracts: columns::read_vote: it is listed, and is no pub fn"],
+        &["contracts: columns::read_vote: it is listed, but is not a pub fn"],
     );
 }
 
 #[test]
 fn a_routine_with_two_rows() {
     let row = "| `lag::lag_refusal` | the refusal of a lag | 3, 9 | `lag-refusal-determined` | `swapped_refusals`, `one_input_tested` |\n";
-    told(
+    reported(
         "two-rows",
         |copy| copy.replace(LIST, row, &row.repeat(2)),
         &["contracts: lag::lag_refusal: it has two rows"],
@@ -123,7 +123,7 @@ fn a_routine_with_two_rows() {
 
 #[test]
 fn a_routine_that_is_public_and_internal() {
-    told(
+    reported(
         "both",
         |copy| copy.append(LIST, "- `lag`: `lag_of`\n"),
         &["contracts: lag::lag_of: it is public and internal"],
@@ -132,7 +132,7 @@ fn a_routine_that_is_public_and_internal() {
 
 #[test]
 fn an_internal_routine_that_no_other_crate_calls() {
-    told(
+    reported(
         "not-called",
         |copy| {
             copy.replace(
@@ -147,12 +147,12 @@ fn an_internal_routine_that_no_other_crate_calls() {
 
 #[test]
 fn a_lemma_that_is_not_there() {
-    told(
+    reported(
         "no-lemma",
         |copy| copy.replace(LEMMAS, "pub lag-determined :", "lag-determined :"),
         &["contracts: lag::lag_of: there is no lemma lag-determined over its contract"],
     );
-    told(
+    reported(
         "no-file",
         |copy| copy.remove(LEMMAS),
         &[
@@ -164,7 +164,7 @@ fn a_lemma_that_is_not_there() {
 
 #[test]
 fn a_lemma_that_is_not_checked() {
-    told(
+    reported(
         "not-checked",
         |copy| copy.replace("crates/lag/proofs/Lib.antt", "pub mod Determined\n", ""),
         &[
@@ -176,12 +176,12 @@ fn a_lemma_that_is_not_checked() {
 
 #[test]
 fn a_lemma_of_another_contract() {
-    told(
+    reported(
         "another-contract",
         |copy| copy.replace(LEMMAS, "proofs.lag_of.Reads as lag-reads", "proofs.lag_refusal.Reads as lag-reads"),
         &["contracts: lag::lag_of: crates/lag/proofs/Determined.antt does not use its Reads as lag-reads"],
     );
-    told(
+    reported(
         "by-hand",
         |copy| {
             let over = ": Determined lag-kinds.ps lag-kinds.r lag-reads.Pre lag-reads.Post";
@@ -193,7 +193,7 @@ fn a_lemma_of_another_contract() {
     );
 }
 
-/// A way out behind the statement, on its line or on the next; and a lemma that sees nothing of the answer.
+/// A way out after the statement, on its line or on the next; and a lemma that says nothing of the result.
 #[test]
 fn a_lemma_that_says_less() {
     let over = "Determined lag-kinds.ps lag-kinds.r lag-reads.Pre lag-reads.Post\n";
@@ -203,7 +203,7 @@ fn a_lemma_that_says_less() {
         .replace("Determined", "DeterminedAs")
         .replace("Post\n", "Post (λ κs. Unit) (λ κs r. tt)\n");
     for less in [way_out, on_the_next_line, blind] {
-        told(
+        reported(
             "says-less",
             |copy| copy.replace(LEMMAS, over, &less),
             &["contracts: lag::lag_of: there is no lemma lag-determined over its contract"],
@@ -219,7 +219,7 @@ const OTHER_MEANING: [&str; 2] = [
 #[test]
 fn a_lemma_of_another_meaning() {
     let ours = "use Rattle.rules.proofs.Determined.{Determined";
-    told(
+    reported(
         "another-meaning",
         |copy| {
             copy.replace(
@@ -230,7 +230,7 @@ fn a_lemma_of_another_meaning() {
         },
         &OTHER_MEANING,
     );
-    told(
+    reported(
         "own-meaning",
         |copy| copy.append(LEMMAS, "\nabbrev Determined : Type 0\nDetermined = Unit\n"),
         &OTHER_MEANING,
@@ -239,7 +239,7 @@ fn a_lemma_of_another_meaning() {
 
 #[test]
 fn an_edit_that_is_not_there() {
-    told(
+    reported(
         "no-edit",
         |copy| copy.remove("crates/lag/must-fail/wrong_way.edit"),
         &["contracts: lag::lag_of: there is no edit wrong_way of lag"],
@@ -248,7 +248,7 @@ fn an_edit_that_is_not_there() {
 
 #[test]
 fn one_edit_for_two() {
-    told(
+    reported(
         "one-edit",
         |copy| {
             copy.replace(
@@ -263,7 +263,7 @@ fn one_edit_for_two() {
 
 #[test]
 fn edits_of_other_routines_alone() {
-    told(
+    reported(
         "edits-elsewhere",
         |copy| {
             copy.replace(

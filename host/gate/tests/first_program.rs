@@ -1,4 +1,4 @@
-//! docs/HOST.md: its first program works as it stands there, with the checkout's archive and with one that is installed;
+//! docs/HOST.md: its first program works exactly as printed there, with the checkout's archive and with one that is installed;
 //! and a build that finds no archive, or is for another machine, says what to do.
 
 use std::env;
@@ -45,7 +45,7 @@ impl Beside {
         beside
     }
 
-    /// The crate alone, without the checkout around it.
+    /// Only the crate, without the checkout around it.
     fn copied_crate(name: &str) -> Beside {
         let beside = Beside::nothing(name);
         let host = beside.folder.join("tsendurkho/host");
@@ -61,8 +61,7 @@ impl Beside {
 
     fn write(&self, file: &str, text: &str) {
         let path = self.folder.join("rack").join(file);
-        fs::create_dir_all(path.parent().expect("a file stands in a folder"))
-            .expect("a folder for it");
+        fs::create_dir_all(path.parent().expect("a file is in a folder")).expect("a folder for it");
         fs::write(path, text).expect("the file can be written");
     }
 

@@ -6,7 +6,7 @@ use crate::mutant::Mutant;
 
 #[derive(Clone, Debug, PartialEq, Eq)]
 pub enum Choice {
-    /// Evenly spread: of each kind in each crate the first, and then every so many.
+    /// Evenly spread: of each kind in each crate the first, and then every nth.
     Spread,
     All,
     Numbered(usize),

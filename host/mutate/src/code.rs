@@ -42,7 +42,7 @@ impl<'a> Code<'a> {
         }
     }
 
-    /// The text of a token; nothing stands beyond the last.
+    /// The text of a token; there is nothing beyond the last.
     pub fn at(&self, token: usize) -> &'a str {
         self.tokens.get(token).map_or("", |found| found.text)
     }
@@ -77,7 +77,7 @@ impl<'a> Code<'a> {
         &self.text[self.place(range)]
     }
 
-    /// Does a value end with the token, so that a sign after it stands between two values?
+    /// Does a value end with the token, so that a sign after it is between two values?
     pub fn ends_value(&self, token: usize) -> bool {
         let found = &self.tokens[token];
         match found.sort {
@@ -92,7 +92,7 @@ impl<'a> Code<'a> {
         self.tokens[token].sort == Sort::Word && self.ends_value(token)
     }
 
-    /// What stands between the commas within some brackets.
+    /// What is between the commas within some brackets.
     pub fn items(&self, open: usize) -> Vec<Range<usize>> {
         let close = self.closing(open);
         let mut items = Vec::new();

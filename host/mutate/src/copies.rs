@@ -54,7 +54,7 @@ pub struct Bench {
 }
 
 impl Bench {
-    /// Only the parts that the edit changes are proved anew: of the others the prover still knows. It replaces the files
+    /// Only the parts that the edit changes are proved again: the prover still knows the others. It replaces the files
     /// in which it keeps that and never writes into one, so links to those of the unmutated crate are enough.
     pub fn try_mutant(&self, mutant: &Mutant) -> io::Result<(Verdict, String)> {
         let known = Path::new("target/inc").join(&mutant.library);

@@ -21,7 +21,7 @@ impl Edit {
         Edit::new(token.start..token.end(), new)
     }
 
-    /// Two places that stand one after the other change their texts.
+    /// Two places, one after the other, swap their texts.
     pub fn swap(text: &str, first: Range<usize>, second: Range<usize>) -> Edit {
         let between = &text[first.end..second.start];
         let new = [&text[second.clone()], between, &text[first.clone()]].concat();

@@ -13,7 +13,7 @@ use crate::edit::Edit;
 
 pub struct Kind {
     pub name: &'static str,
-    /// Of these mutants in a crate, the first and then every so many are run where not all are asked for. It is odd where
+    /// Of these mutants in a crate, the first and then every nth are run unless all are asked for. It is odd where
     /// the edits come in pairs, so that both of a pair have their turn.
     pub step: usize,
     pub edits: fn(&Code, &Part) -> Vec<Edit>,

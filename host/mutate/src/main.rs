@@ -74,7 +74,7 @@ fn answer(request: &Request) -> Result<bool, Failure> {
 fn asked(names: &[String]) -> Result<Vec<String>, Failure> {
     let libraries = libraries(&root()).map_err(failed)?;
     if let Some(unknown) = names.iter().find(|name| !libraries.contains(name)) {
-        let message = format!("'{unknown}' is no library that crates.txt lists");
+        let message = format!("'{unknown}' is not a library in crates.txt");
         return Err(Failure::WrongUse(message));
     }
     let wanted = |library: &String| names.is_empty() || names.contains(library);
@@ -102,7 +102,7 @@ fn tried<'m>(
         equivalents,
     };
     let aloud = request.choice.which().is_some();
-    let tell = |outcome: &Outcome| {
+    let report = |outcome: &Outcome| {
         if aloud {
             print!("{}", outcome.printed);
         }
@@ -117,7 +117,7 @@ fn tried<'m>(
             .collect();
         if !mutants.is_empty() {
             println!("{library}: {} mutants", mutants.len());
-            outcomes.extend(run.of_crate(library, &mutants, tell)?);
+            outcomes.extend(run.of_crate(library, &mutants, report)?);
         }
     }
     Ok(outcomes)

@@ -12,25 +12,22 @@ pub enum Verdict {
     Survived,
     /// The compiler refuses it before anything is to be proved.
     NotAProgram,
-    /// The prover could not tell, or not in time.
+    /// The prover could not decide, or not in time.
     NoVerdict,
 }
 
 /// In seconds. A mutant takes a few.
 const TIME_LIMIT: &str = "120";
 
-/// Proves a crate as it stands, and whatever it depends on. An error has what the prover printed.
+/// Proves a crate as it is, and whatever it depends on. An error has what the prover printed.
 pub fn prove(folder: &Path, library: &str) -> io::Result<()> {
     let mut command = Command::new("rt");
-    let told = match command.args(["dev", library]).current_dir(folder).output() {
+    let reason = match command.args(["dev", library]).current_dir(folder).output() {
         Ok(output) if output.status.success() => return Ok(()),
-        Ok(output) => format!(
-            "{library} is not proved as it stands:\n{}",
-            printed(&output)
-        ),
+        Ok(output) => format!("{library} is not proved as it is:\n{}", printed(&output)),
         Err(error) => format!("rt, the prover's command, cannot be started: {error}"),
     };
-    Err(io::Error::new(io::ErrorKind::Other, told))
+    Err(io::Error::new(io::ErrorKind::Other, reason))
 }
 
 /// Asks about a crate whose dependencies are proved.

@@ -60,7 +60,7 @@ fn table(outcomes: &[Outcome]) -> String {
     text + &row("all", outcomes.iter())
 }
 
-/// What is no program is no mutant.
+/// What is not a program is not a mutant.
 fn row<'a>(name: &str, outcomes: impl Iterator<Item = &'a Outcome<'a>>) -> String {
     let endings: Vec<Ending> = outcomes.map(|outcome| outcome.ending).collect();
     let count = |wanted: Ending| endings.iter().filter(|ending| **ending == wanted).count();

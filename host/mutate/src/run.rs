@@ -26,12 +26,12 @@ pub struct Run<'a> {
 }
 
 impl Run<'_> {
-    /// Tries mutants of one crate, and tells of each as it ends.
+    /// Tries mutants of one crate, and reports each as it ends.
     pub fn of_crate<'m>(
         &self,
         library: &str,
         mutants: &[&'m Mutant],
-        tell: impl Fn(&Outcome),
+        report: impl Fn(&Outcome),
     ) -> io::Result<Vec<Outcome<'m>>> {
         self.place.prove(library)?;
         let benches = (0..self.jobs).map(|job| self.place.bench(library, job));
@@ -54,7 +54,7 @@ impl Run<'_> {
             let mut outcomes = Vec::new();
             for outcome in ended {
                 let outcome = outcome?;
-                tell(&outcome);
+                report(&outcome);
                 outcomes.push(outcome);
             }
             Ok(outcomes)

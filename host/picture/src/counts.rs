@@ -179,7 +179,7 @@ impl Counts {
         group().child(self.beats.axis(self.lanes_end())).child(name)
     }
 
-    /// The marks of agreement and of T(f). T(f) is the later one: its words stand above where they
+    /// The marks of agreement and of T(f). T(f) is the later one: its words are above if they
     /// reach back over the other mark, or else below, where the other's words reach over it.
     fn marks(&self) -> Vec<Element> {
         let bound = self.run.bound;

@@ -21,14 +21,14 @@ impl Scale {
         self.low <= number && number <= self.high
     }
 
-    /// From 0 in round steps, such that there are at most so many.
+    /// From 0 in round steps, such that there are at most that many.
     pub fn ticks(self, most: usize) -> Vec<usize> {
         let high = self.high as usize;
         (0..=high).step_by(round_step(high, most)).collect()
     }
 }
 
-/// The least step of 1, 2 or 5 times a power of ten that goes fewer than so many times into a length.
+/// The least step of 1, 2 or 5 times a power of ten that goes fewer than that many times into a length.
 pub fn round_step(length: usize, most: usize) -> usize {
     let powers = (0..).map(|power| 10_usize.pow(power));
     let mut steps = powers.flat_map(|power| [1, 2, 5].map(|digit| digit * power));

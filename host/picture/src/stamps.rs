@@ -23,7 +23,7 @@ pub fn runs(counter: Counter) -> Vec<[Vec<u16>; 2]> {
     (0..RUNS).map(|run| counts_of_two(counter, run)).collect()
 }
 
-/// The lag of each event in ticks, where in each run the second card's count is moved by so many
+/// The lag of each event in ticks, where in each run the second card's count is moved by that many
 /// blocks.
 pub fn lags(counter: Counter, runs: &[[Vec<u16>; 2]], moved_in: fn(u64) -> i32) -> Vec<i32> {
     let lags_of = |(run, [one, other]): (u64, &[Vec<u16>; 2])| {

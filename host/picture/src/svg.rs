@@ -108,7 +108,7 @@ pub fn heading(text: impl Display) -> Element {
     heading.with("font-weight", "bold")
 }
 
-/// The lines of a text, each of at most so many characters. It is cut at plain spaces alone.
+/// The lines of a text, each of at most that many characters. It is cut only at plain spaces.
 pub fn wrapped(text: &str, longest: usize) -> Vec<String> {
     let mut lines: Vec<String> = Vec::new();
     for word in text.split(' ') {

@@ -22,7 +22,7 @@ fn the_picture_is_written_and_its_run_described() {
 
 #[test]
 fn a_picture_that_cannot_be_written_is_a_failure() {
-    // A file is no folder.
+    // A file is not a folder.
     let file = Path::new(env!("CARGO_TARGET_TMPDIR")).join("no-folder");
     fs::write(&file, "").unwrap();
     let inside = file.join("run.svg");

@@ -93,7 +93,7 @@ fn allowed(name: &str) -> &'static [&'static str] {
             "stroke-linecap",
             "stroke-dasharray",
         ],
-        _ => panic!("{name} is no element of a plain picture"),
+        _ => panic!("{name} is not an element of a plain picture"),
     }
 }
 
@@ -110,7 +110,7 @@ fn only_plain_elements_with_plain_attributes() {
         for node in svg.all() {
             for (name, value) in &node.attributes {
                 match name.as_str() {
-                    "id" => assert!(ids.insert(value), "{value} stands twice"),
+                    "id" => assert!(ids.insert(value), "{value} is given twice"),
                     name => assert!(allowed(&node.name).contains(&name), "{name}"),
                 }
             }
@@ -296,7 +296,7 @@ fn drawn_counts(svg: &Node, card: usize) -> BTreeMap<usize, BTreeSet<usize>> {
         let mut within = group.children.iter();
         within.any(|node| node.attribute("id") == Some(&id))
     });
-    // A number stands beside its place, its base line somewhat below.
+    // A number is beside its place, its base line somewhat below.
     let counts = Axis::new(&labels(lane.expect("a lane"), |text| {
         text.number("y") - 3.5
     }));

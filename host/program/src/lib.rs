@@ -51,7 +51,7 @@ pub fn wanted(text: &[u8]) -> Vec<u8> {
     output
 }
 
-/// Hands a piece on. The program stops reading at a bad line, and then the pipe may be closed: that is no fault.
+/// Hands a piece on. The program stops reading at a bad line, and then the pipe may be closed: that is not a fault.
 pub fn send(input: &mut ChildStdin, piece: &[u8]) -> bool {
     match input.write_all(piece) {
         Ok(()) => true,
@@ -60,7 +60,7 @@ pub fn send(input: &mut ChildStdin, piece: &[u8]) -> bool {
     }
 }
 
-/// The launcher with these words behind it, and pipes for its input and both of its outputs.
+/// The launcher with these arguments, and pipes for its input and both of its outputs.
 pub fn started(words: &[&str]) -> Child {
     Command::new(launcher())
         .args(words)

@@ -8,7 +8,7 @@ use std::process::Command;
 
 use crate::{launcher, root, scratch};
 
-/// A fenced part of a page: what stands behind its first fence, and its lines.
+/// A fenced part of a page: what follows its first fence, and its lines.
 pub struct Block {
     pub language: String,
     pub text: String,

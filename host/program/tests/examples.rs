@@ -23,7 +23,7 @@ fn the_examples_print_what_stands_beside_them() {
     assert!(found >= 7);
 }
 
-/// The lines of a file that is laid out in columns: a row has digits behind a bar, and begins a line where it says so.
+/// The lines of a file that is laid out in columns: a row has digits after a bar, and begins a line if it says so.
 fn laid_out(layout: &str) -> Vec<String> {
     let mut lines: Vec<String> = Vec::new();
     for (name, digits) in layout.lines().filter_map(|row| row.split_once('|')) {

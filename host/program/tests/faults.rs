@@ -75,7 +75,7 @@ fn small_file() -> Vec<u8> {
     RunFile::of_length(&mut Random::new(201), shape, 0b0100, 2).text()
 }
 
-/// A file of so many beats of about 8,000 bytes each.
+/// A file of that many beats of about 8,000 bytes each.
 fn file_of(beats: usize) -> Vec<u8> {
     let shape = Shape {
         n: 16,
@@ -137,7 +137,7 @@ fn more_than_a_million_reads() {
     assert_ends(fed_by_bytes(&text), &wanted(&text), "", 0);
 }
 
-/// A socket that may not wait fails to be read behind the bytes that are there, as an interrupted read fails.
+/// A socket that may not wait fails to be read after the bytes that are there, as an interrupted read fails.
 #[test]
 fn a_read_that_fails_anywhere() {
     let text = small_file();

@@ -113,7 +113,7 @@ fn without_a_record_nothing_is_removed() {
     done(&["install", word(&place)]);
     fs::remove_file(place.join(RECORD)).expect("the record is there");
     nothing_is_removed(&place, &said);
-    // An older install recorded its folders alone.
+    // An older install recorded only its folders.
     fs::write(
         place.join(RECORD),
         "# folders made by install: lib include bin\n",

@@ -43,7 +43,7 @@ const TABLE: &str = "# Figures
 ";
 
 /// Both products depend on one crate, and none on another.
-const CRATES: &str = "# NAME: what it stands on
+const CRATES: &str = "# NAME: what it depends on
 only:
 other: only
 blockrun: only io
@@ -73,8 +73,7 @@ impl Repository {
 
     fn write(&self, file: &str, text: &str) {
         let path = self.0.join(file);
-        fs::create_dir_all(path.parent().expect("a file stands in a folder"))
-            .expect("a folder for it");
+        fs::create_dir_all(path.parent().expect("a file is in a folder")).expect("a folder for it");
         fs::write(path, text).expect("the file can be written");
     }
 
@@ -201,7 +200,7 @@ fn a_changed_source() {
         assert!(place.asked().is_empty());
     }
     place.assert_made_of("first");
-    // The edits that must be refused are no part of what is built.
+    // The edits that must be refused are not part of what is built.
     place.write("crates/only/must-fail/one.edit", "new: second\n");
     assert!(place.asked().is_empty());
 }

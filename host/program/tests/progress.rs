@@ -11,7 +11,7 @@ use program::{launcher, wanted};
 /// What ends the progress line: back to its start, and all erased.
 const ERASED: &[u8] = b"\r\x1b[K";
 
-/// A run file of so many beats of about 8,000 bytes each, and what it prints.
+/// A run file of that many beats of about 8,000 bytes each, and what it prints.
 fn run_file(name: &str, beats: usize) -> (PathBuf, Vec<u8>) {
     let shape = Shape {
         n: 16,

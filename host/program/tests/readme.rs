@@ -20,19 +20,26 @@ fn commands_print_what_is_said() {
     for block in blocks.iter().filter(|block| block.is("c")) {
         fs::write(place.join("count.c"), &block.text).expect("count.c can be written");
     }
-    let told = blocks
+    let run_or_printed = blocks
         .iter()
         .filter(|block| block.is("sh") || block.is("text"));
-    let told: Vec<_> = told.collect();
+    let run_or_printed: Vec<_> = run_or_printed.collect();
     let (mut all, mut compared) = (String::new(), 0);
-    for (number, block) in told.iter().enumerate().filter(|(_, block)| block.is("sh")) {
+    for (number, block) in run_or_printed
+        .iter()
+        .enumerate()
+        .filter(|(_, block)| block.is("sh"))
+    {
         let lines = block.text.lines().filter(|line| !line.starts_with(GATE));
         let commands = lines.collect::<Vec<_>>().join("\n");
         if commands.contains("cc ") && !links_here(&place) {
             continue;
         }
         let output = printed(&place, &commands);
-        if let Some(said) = told.get(number + 1).filter(|next| next.is("text")) {
+        if let Some(said) = run_or_printed
+            .get(number + 1)
+            .filter(|next| next.is("text"))
+        {
             assert_eq!(output, said.text);
             compared += 1;
         }
@@ -41,7 +48,7 @@ fn commands_print_what_is_said() {
     assert_eq!(compared, if links_here(&place) { 2 } else { 1 });
     assert!(
         all.contains("usage: ./tsendurkho COMMAND"),
-        "the other commands are not told"
+        "the other commands are not listed"
     );
     let [drawn, shown] = [place.join("counts.svg"), root().join("docs/counts.svg")].map(fs::read);
     assert!(drawn.expect("a picture is drawn") == shown.expect("docs/counts.svg can be read"));

@@ -267,7 +267,7 @@ fn every_damage_is_named() {
     assert!(named > 200, "{named} files were refused");
 }
 
-/// The output of a long file stands before what is said of its last line, in a file that gets both.
+/// The output of a long file comes before what is said of its last line, in a file that gets both.
 #[test]
 fn the_words_come_after_the_output() {
     let shape = Shape { n: 4, f: 1, c: 8 };

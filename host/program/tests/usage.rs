@@ -92,10 +92,7 @@ fn arguments_that_a_tool_does_not_take() {
         (&["compare", "--fast"], "there is no option '--fast'"),
         (&["compare", "1", "2", "3"], "one argument too many: '3'"),
         (&["mutate", "--fast"], "there is no option '--fast'"),
-        (
-            &["mutate", "lug"],
-            "'lug' is no library that crates.txt lists",
-        ),
+        (&["mutate", "lug"], "'lug' is not a library in crates.txt"),
         (
             &["mutate", "--only", "no such edit", "lag"],
             "no edit is --only 'no such edit'",
@@ -183,7 +180,7 @@ fn help_on_a_command_needs_nothing() {
     for command in COMMANDS {
         let (part, errors, code) = parts(&bare(&place, &[command, "--help"]));
         assert_eq!((errors.as_str(), code), ("", Some(0)), "{command}");
-        let (usage, paragraphs) = part.split_once("\n\n").expect("the usage stands first");
+        let (usage, paragraphs) = part.split_once("\n\n").expect("the usage comes first");
         assert!(
             whole.starts_with(usage) && whole.contains(paragraphs),
             "{part}"

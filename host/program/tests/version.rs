@@ -1,4 +1,4 @@
-//! The version stands in the file VERSION, and wherever else it has to be written it is the same.
+//! The version is in the file VERSION, and wherever else it has to be written it is the same.
 
 use std::fs;
 use std::process::Command;
@@ -9,7 +9,7 @@ fn read(path: &str) -> String {
     fs::read_to_string(root().join(path)).expect(path)
 }
 
-/// What stands between two texts, on the first line that has both.
+/// What is between two texts, on the first line that has both.
 fn between<'a>(text: &'a str, before: &str, after: &str) -> &'a str {
     text.lines()
         .find_map(|line| line.strip_prefix(before)?.split_once(after))

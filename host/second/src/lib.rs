@@ -1,5 +1,5 @@
 //! The block counter a second time, written from the rules alone (docs/RULES.md), so that the two implementations can be
-//! held against each other. It shares no code with the first and stands on nothing else of the repository.
+//! compared. It shares no code with the first and depends on nothing else in the repository.
 //!
 //! Counts are `Option<u16>`; the word 65,535 for none appears only where a word
 //! is read or written.

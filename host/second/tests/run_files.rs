@@ -265,7 +265,7 @@ fn after_beat_fffe_every_well_formed_line_is_11() {
     }
 }
 
-/// A place to write to with room for so many bytes.
+/// A place to write to with room for that many bytes.
 struct Room(usize);
 
 impl Write for Room {

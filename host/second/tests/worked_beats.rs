@@ -38,7 +38,7 @@ fn the_vote_is_on_the_old_m_of_all_cards() {
 
 #[test]
 fn an_m_out_of_range_is_not_counted() {
-    // 18 alike are no vote for 18, and the vote stays none.
+    // 18 alike are not a vote for 18, and the vote stays none.
     let records = alike([18, 54], [17, 53], [3, 7], 2, 1);
     assert_eq!(after(0, records)[2..6], [65_535, 65_535, 108, 108]);
 }

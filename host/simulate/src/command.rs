@@ -7,14 +7,14 @@ use crate::survey::{late, Outcome, Survey};
 
 const RUNS: u64 = 2_000;
 
-/// How many late runs are told one by one, and for how many times T(f) they are watched.
-const TOLD: usize = 10;
+/// How many late runs are listed one by one, and for how many times T(f) they are watched.
+const LISTED: usize = 10;
 const LONG: usize = 10;
 
 /// What the arguments of the launcher's command `simulate` ask for.
 #[derive(Debug, PartialEq, Eq)]
 pub enum Request<'a> {
-    /// The latest beat of agreement in so many runs.
+    /// The latest beat of agreement in that many runs.
     Agreement(u64),
     /// The same runs with wrong cooldowns beside.
     Fault(u64),
@@ -28,7 +28,7 @@ pub enum Request<'a> {
     Lies,
 }
 
-/// The options and the argument that stand there, in any order.
+/// The options and the argument, in any order.
 #[derive(Default)]
 struct Given<'a> {
     runs: Option<u64>,
@@ -74,7 +74,7 @@ fn once<T>(option: &str, place: &mut Option<T>, value: T) -> Result<(), String> 
 
 fn known_fault(name: &str) -> Result<&str, String> {
     let known = Some(name).filter(|&name| name == "cooldown");
-    known.ok_or_else(|| format!("--fault knows 'cooldown' alone, not '{name}'"))
+    known.ok_or_else(|| format!("--fault takes only 'cooldown', not '{name}'"))
 }
 
 fn number(name: &str, text: &str) -> Result<u64, String> {
@@ -170,9 +170,9 @@ fn found(survey: &Survey) -> String {
 /// The first late runs of a survey.
 fn late_runs(survey: &Survey) -> String {
     let late = late(&survey.outcomes);
-    let told = late.iter().take(TOLD);
-    let told = told.map(|run| one_run(run.seed, survey.cooldown));
-    told.map(|run| format!("late: {run}")).collect()
+    let listed = late.iter().take(LISTED);
+    let listed = listed.map(|run| one_run(run.seed, survey.cooldown));
+    listed.map(|run| format!("late: {run}")).collect()
 }
 
 fn one_run(seed: u64, cooldown: Cooldown) -> String {

@@ -35,7 +35,7 @@ pub const TOO_SOON: Cooldown = Cooldown {
 
 impl Cooldown {
     /// Takes every cooldown of a record down to the restart. Done before each beat this is the
-    /// same as restarting there, because a card's w is read by that card alone.
+    /// same as restarting there, because only that card reads its w.
     pub fn cap(self, path: &[Level], record: &mut [u16]) {
         for level in path.iter().filter(|level| level.group.is_split()) {
             for w in &mut record[level.word(split::W)..level.word(split::A)] {

@@ -21,12 +21,12 @@ pub struct Directed {
     bad: Level,
     /// Which half is the bad one.
     i: usize,
-    /// What the broken cards tell as the bad half's output, on this beat and on the one before.
+    /// What the broken cards send as the bad half's output, on this beat and on the one before.
     counter: u16,
     counter_before: u16,
     /// How far the counter is out of step after a jump, if it ever jumps.
     jumps: Option<u16>,
-    /// What the broken cards tell each card of the group as their a.
+    /// What the broken cards send each card of the group as their a.
     outputs: Vec<u16>,
     inner: Option<Box<Directed>>,
 }
@@ -84,15 +84,15 @@ impl Directed {
         let until_turn = i32::from(2 * t - last_king);
         let then = stepped(bad?, 6 * t, until_turn);
         let points_to_itself = then >= 3 * t && then + last_king < 6 * t;
-        // What is told on this beat is a vote two beats later.
+        // What is sent on this beat is a vote two beats later.
         let told = stepped(3 * t + out_of_step, 6 * t, 2 - until_turn);
         Some(told).filter(|_| good == Some(last_king) && !points_to_itself)
     }
 
-    /// What a card of the bad half tells as that half's output.
+    /// What a card of the bad half sends as that half's output.
     ///
     /// A vote that only the bad half's cards are to see must hang on the broken cards, so one
-    /// card of the good half, the decoy, is told another output before. An unsplit bad half
+    /// card of the good half, the decoy, is sent another output before. An unsplit bad half
     /// follows its broken first card; it is sent apart still one beat before, or its sound cards
     /// would outvote that lie.
     fn bad_output(&self, scene: &Scene, listener: usize) -> u16 {
@@ -106,7 +106,7 @@ impl Directed {
         self.counter + ahead as u16
     }
 
-    /// What all broken cards tell as their m of the bad half. Once in t beats the good half's
+    /// What all broken cards send as their m of the bad half. Once in t beats the good half's
     /// cards miss the vote, so that their cooldowns never end.
     fn bad_vote(&self, listener: usize) -> u16 {
         if self.counter_before % self.t() == 1 && self.good.has(listener) {

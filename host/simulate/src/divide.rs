@@ -7,7 +7,7 @@ use second::split;
 use crate::level::Level;
 use crate::scene::Scene;
 
-/// For each card of the group in order the a that all broken cards tell it: the one that leaves
+/// For each card of the group in order the a that all broken cards send it: the one that leaves
 /// it with none, or else with the count that the fewest cards come to have.
 pub fn divide(scene: &Scene, level: Level) -> Vec<u16> {
     let sound = level.cards().filter(|&card| scene.is_sound(card));
@@ -32,7 +32,7 @@ pub fn divide(scene: &Scene, level: Level) -> Vec<u16> {
     level.cards().map(&mut best_for).collect()
 }
 
-/// The a that a listener comes to have if all broken cards tell it this one.
+/// The a that a listener comes to have if all broken cards send it this one.
 fn next_output(scene: &Scene, level: Level, listener: usize, lie: Option<u16>) -> Option<u16> {
     let record = scene.record(listener);
     let own = Output {

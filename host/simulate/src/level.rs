@@ -63,12 +63,12 @@ impl Level {
         self.has(one) && self.has(other) && self.half_of(one) == self.half_of(other)
     }
 
-    /// Where one of its words m0 m1 M0 M1 w0 w1 a b stands in a record.
+    /// Where one of its words m0 m1 M0 M1 w0 w1 a b is in a record.
     pub fn word(self, place: usize) -> usize {
         self.first_word + place
     }
 
-    /// Where its word a stands in a record.
+    /// Where its word a is in a record.
     pub fn output_word(self) -> usize {
         self.word(if self.group.is_split() { split::A } else { 0 })
     }
@@ -96,7 +96,7 @@ impl Level {
         self.first_card + usize::from(self.round(card, record) / 3) == card
     }
 
-    /// Where its counts stand in a record, each with its modulus.
+    /// Where its counts are in a record, each with its modulus.
     fn counts(self) -> Vec<(usize, u16)> {
         let mut counts = vec![(self.output_word(), self.group.c)];
         if self.group.is_split() {
@@ -110,7 +110,7 @@ impl Level {
     }
 }
 
-/// A record with every count moved by so many steps; none stays.
+/// A record with every count moved by that many steps; none stays.
 pub fn moved(path: &[Level], record: &[u16], steps: i32) -> Vec<u16> {
     let mut moved = record.to_vec();
     for (place, modulus) in path.iter().flat_map(|level| level.counts()) {
@@ -121,7 +121,7 @@ pub fn moved(path: &[Level], record: &[u16], steps: i32) -> Vec<u16> {
     moved
 }
 
-/// A count moved by so many steps, modulo its modulus.
+/// A count moved by that many steps, modulo its modulus.
 pub fn stepped(count: u16, modulus: u16, steps: i32) -> u16 {
     (i32::from(count) + steps).rem_euclid(i32::from(modulus)) as u16
 }

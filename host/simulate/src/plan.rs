@@ -115,8 +115,8 @@ impl Plan {
         (scene.counted_by(self.counter), self.adversary)
     }
 
-    /// The beat since when all sound cards show one same count and go on by one, if they do
-    /// after so many beats.
+    /// The beat since when all sound cards show the same count and go on by one, if they do
+    /// after that many beats.
     pub fn together_since(self, cooldown: Cooldown, beats: usize) -> Option<usize> {
         let modulus = self.shape.c as u16;
         let (mut scene, mut adversary) = self.begin(cooldown);
@@ -132,8 +132,8 @@ impl Plan {
         since
     }
 
-    /// The counts after 0 to so many beats: of a sound card the one that it shows, of a broken
-    /// card all that it then tells sound cards.
+    /// The counts after 0 to that many beats: of a sound card the one that it shows, of a broken
+    /// card all that it then sends to sound cards.
     pub fn shown(self, cooldown: Cooldown, beats: usize) -> Vec<Row> {
         let (mut scene, mut adversary) = self.begin(cooldown);
         let mut rows = Vec::new();

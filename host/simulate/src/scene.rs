@@ -15,7 +15,7 @@ pub const REMEMBERED: usize = 8;
 
 /// What decides the words of the broken cards.
 pub trait Adversary {
-    /// The record that a broken card tells a listener on the next beat.
+    /// The record that a broken card sends a listener on the next beat.
     fn tell(&mut self, scene: &Scene, liar: usize, listener: usize) -> Vec<u16>;
 
     /// Called once before each beat.
@@ -33,7 +33,7 @@ pub struct Scene {
     paths: Vec<Vec<Level>>,
     /// The newest table first. A broken card's record is what it would hold if it were sound.
     tables: VecDeque<Vec<u16>>,
-    /// What the broken cards told on the last beat, in the order of a run file (RULES 6).
+    /// What the broken cards sent on the last beat, in the order of a run file (RULES 6).
     told: Vec<u16>,
 }
 
@@ -90,7 +90,7 @@ impl Scene {
         &table[card * self.shape.words()..][..self.shape.words()]
     }
 
-    /// The record that a broken card told a listener on the last beat.
+    /// The record that a broken card sent a listener on the last beat.
     pub fn told(&self, liar: usize, listener: usize) -> &[u16] {
         let liars_before = self.broken_cards().filter(|&other| other < liar).count();
         let place = listener * self.broken_cards().count() + liars_before;
@@ -102,7 +102,7 @@ impl Scene {
         Level::outermost(self.shape).output(record)
     }
 
-    /// The count that all sound cards show, if they show one same count.
+    /// The count that all sound cards show, if they show the same one.
     pub fn common_count(&self) -> Option<u16> {
         let mut shown = self.sound_cards().map(|card| self.shown(self.record(card)));
         let first = shown.next().flatten();

@@ -70,7 +70,7 @@ pub const STRATEGIES: [Strategy; 10] = [
     },
 ];
 
-/// One broken card that tells its record to one listener.
+/// One broken card that sends its record to one listener.
 pub struct Telling<'a> {
     pub scene: &'a Scene,
     pub liar: usize,
@@ -78,7 +78,7 @@ pub struct Telling<'a> {
 }
 
 impl Telling<'_> {
-    /// What the card would tell if it were sound.
+    /// What the card would send if it were sound.
     pub fn truth(&self) -> &[u16] {
         self.scene.record(self.liar)
     }

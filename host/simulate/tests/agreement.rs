@@ -1,4 +1,4 @@
-//! The sound cards agree by T(f), whatever the broken ones tell.
+//! The sound cards agree by T(f), whatever the broken ones send.
 
 use std::collections::BTreeSet;
 

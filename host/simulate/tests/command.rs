@@ -38,10 +38,10 @@ fn the_answer_is_the_same_each_time() {
 
 #[test]
 fn the_search_for_the_fault_tells_of_all_three_cooldowns() {
-    let told = lines(&["--fault", "cooldown", "8"]);
+    let printed = lines(&["--fault", "cooldown", "8"]);
     let has_f = |line: &&Vec<String>| line.iter().take(1).any(|f| f.parse::<u32>().is_ok());
-    assert_eq!(told.iter().filter(has_f).count(), 5);
-    let search = told.concat().join(" ");
+    assert_eq!(printed.iter().filter(has_f).count(), 5);
+    let search = printed.concat().join(" ");
     for wanted in ["2·c1: latest", "c1: latest", "t: latest", "lies:"] {
         assert!(search.contains(wanted), "{wanted}");
     }
@@ -50,18 +50,18 @@ fn the_search_for_the_fault_tells_of_all_three_cooldowns() {
 
 #[test]
 fn one_run_is_told_with_each_cooldown() {
-    let told = lines(&["--seed", "3"]);
-    assert_eq!(told.len(), 3);
-    assert!(told
+    let printed = lines(&["--seed", "3"]);
+    assert_eq!(printed.len(), 3);
+    assert!(printed
         .iter()
         .all(|line| line[..5].join(" ").ends_with("seed 3,")));
 }
 
 #[test]
 fn every_strategy_is_described() {
-    let told = answer_to(&["--lies"]).output;
+    let printed = answer_to(&["--lies"]).output;
     for strategy in STRATEGIES {
-        assert!(told.contains(strategy.name) && told.contains(strategy.description));
+        assert!(printed.contains(strategy.name) && printed.contains(strategy.description));
     }
 }
 
@@ -95,7 +95,7 @@ fn wrong_arguments_are_named() {
         (&["--fault"], "--fault lacks its value"),
         (
             &["--fault", "kings"],
-            "--fault knows 'cooldown' alone, not 'kings'",
+            "--fault takes only 'cooldown', not 'kings'",
         ),
         (&["--seed"], "--seed lacks its value"),
         (&["--seed", "many"], "SEED has to be a number, not 'many'"),
@@ -115,7 +115,7 @@ fn wrong_arguments_are_named() {
     }
 }
 
-/// What links the archive stands apart.
+/// What links the archive is apart.
 #[test]
 fn a_picture_is_not_drawn_here() {
     let Answer { output, errors } = answer_to(&["--svg", "run.svg"]);

@@ -27,7 +27,7 @@ fn strategy(name: &str) -> Strategy {
 /// The beats of a run past T(f).
 const BEATS: usize = 520;
 
-/// Shows `watch` all that these liars tell sound cards in a run past T(f).
+/// Shows `watch` all that these liars send to sound cards in a run past T(f).
 fn watch_run(strategy: Strategy, mut watch: impl FnMut(&Telling, Vec<u16>)) {
     let mut watched = 0;
     let mut random = Random::new(3);
@@ -52,7 +52,7 @@ fn watch_run(strategy: Strategy, mut watch: impl FnMut(&Telling, Vec<u16>)) {
     assert_eq!(watched, BEATS * 3 * 7);
 }
 
-/// Whether a listener is told what no sound card would tell it.
+/// Whether a listener is sent what no sound card would send it.
 fn is_lie(telling: &Telling, told: &[u16]) -> bool {
     told != telling.truth()
 }

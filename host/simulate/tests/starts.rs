@@ -8,7 +8,7 @@ use simulate::scene::Scene;
 use simulate::start::{settled, Start};
 use simulate::strategy::STRATEGIES;
 
-/// The beats, of the first 100, after which sound cards without a liar show one same count.
+/// The beats, of the first 100, after which sound cards without a liar show the same count.
 fn common_counts(shape: Shape, start: Vec<u16>) -> Vec<Option<u16>> {
     let mut scene = Scene::new(shape, 0, start, RIGHT);
     let mut nobody = Liars::new(STRATEGIES.to_vec(), Random::new(0));

@@ -6,7 +6,7 @@ use common::rack;
 use generate::calls::{Call, LagCall};
 use generate::Random;
 
-/// "the number congruent to x - y modulo c that is above -c/2 and at most c/2", as it stands.
+/// "the number congruent to x - y modulo c that is above -c/2 and at most c/2", taken literally.
 fn is_the_lag(c: u32, x: u16, y: u16, lag: i32) -> bool {
     let (c, x, y, lag) = (i64::from(c), i64::from(x), i64::from(y), i64::from(lag));
     (lag - (x - y)) % c == 0 && -c < 2 * lag && 2 * lag <= c

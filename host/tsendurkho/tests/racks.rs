@@ -8,7 +8,7 @@ use tsendurkho::{Card, Rack, Refusal};
 
 const ANY: u16 = 0xabcd;
 
-/// Every rack that there is but for the modulus, each with one or two moduli.
+/// Every possible rack but for the modulus, each with one or two moduli.
 fn racks() -> Vec<Rack> {
     let mut random = Random::new(1);
     let shapes = Shape::each(&mut random).into_iter();

@@ -50,7 +50,7 @@ impl Both for ShownCall {
 }
 
 impl Both for LagCall {
-    /// What is no word is asked as the largest word, which is at or above every modulus too.
+    /// What is not a word is asked as the largest word, which is at or above every modulus too.
     fn by_rack(&mut self) -> Result<i32, Refusal> {
         let [x, y] = [self.x, self.y].map(|input| u16::try_from(input).unwrap_or(u16::MAX));
         rack(1, 0, self.c)?.lag(x, y)

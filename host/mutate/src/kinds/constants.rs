@@ -24,7 +24,7 @@ fn neighbours(token: &Token) -> Vec<Edit> {
     texts.into_iter().map(edit).collect()
 }
 
-/// The number with its type's name behind it, if any: `0u16`.
+/// The number with its type's name after it, if any: `0u16`.
 fn numbers(text: &str) -> Vec<String> {
     let digits = text
         .find(|digit: char| !digit.is_ascii_digit())

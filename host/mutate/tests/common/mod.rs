@@ -1,7 +1,7 @@
 use mutate::mutant::{mutants_of, Mutant};
 use mutate::repository::Source;
 
-/// The mutants of a source that stands in no crate.
+/// The mutants of a source that belongs to no crate.
 pub fn mutants_in(text: &str) -> Vec<Mutant> {
     let source = Source {
         name: "sample/src/lib.rt".to_string(),

@@ -1,7 +1,7 @@
 //! A strict reader of the part of XML that a plain SVG file needs: one element within an XML
 //! declaration and nothing beside it, no comments, no other declarations, quotes always double.
 
-/// An element. Its text is what stands directly in it, with white space around it taken off.
+/// An element. Its text is what is directly in it, with the white space around it removed.
 #[derive(Debug)]
 pub struct Node {
     pub name: String,
@@ -71,7 +71,7 @@ impl<'a> Reader<'a> {
         self.takes(token).then_some(()).ok_or_else(error)
     }
 
-    /// What stands before the first character of this kind.
+    /// What comes before the first character of this kind.
     fn until(&mut self, end: impl Fn(char) -> bool) -> Result<&'a str, String> {
         let at = self.rest.find(end).ok_or("the end comes too soon")?;
         let (found, rest) = self.rest.split_at(at);
@@ -83,7 +83,7 @@ impl<'a> Reader<'a> {
         let name = self.until(|c| !c.is_ascii_alphanumeric() && c != '-')?;
         match name.starts_with(|c: char| c.is_ascii_alphabetic()) {
             true => Ok(name.to_string()),
-            false => Err(format!("{name:?} is no name")),
+            false => Err(format!("{name:?} is not a name")),
         }
     }
 
@@ -101,7 +101,7 @@ impl<'a> Reader<'a> {
             let value = unescaped(self.until(|c| c == '"' || c == '<')?)?;
             self.expect("\"")?;
             if node.attribute(&name).is_some() {
-                return Err(format!("{name} stands twice in {}", node.name));
+                return Err(format!("{name} is given twice in {}", node.name));
             }
             node.attributes.push((name, value));
         }
@@ -133,7 +133,7 @@ fn unescaped(text: &str) -> Result<String, String> {
     let mut plain = parts.next().unwrap_or_default().to_string();
     for part in parts {
         let entity = entities.iter().find(|(name, _)| part.starts_with(name));
-        let (name, meant) = entity.ok_or_else(|| format!("&{part:?} is no entity"))?;
+        let (name, meant) = entity.ok_or_else(|| format!("&{part:?} is not an entity"))?;
         plain.push(*meant);
         plain.push_str(&part[name.len()..]);
     }
