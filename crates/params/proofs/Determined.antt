@@ -22,10 +22,12 @@ parameters-determined = (λ κs a. tt, λ κs a x y v w p q. (only-one p q, refl
 pub shape-refusal-determined : Determined shape-refusal-kinds.ps shape-refusal-kinds.r shape-refusal-reads.Pre shape-refusal-reads.Post
 shape-refusal-determined = (λ κs a. tt, λ κs a x y v w p q. (only-one p q, refl))
 
-pub counter-refusal-determined : Determined counter-refusal-kinds.ps counter-refusal-kinds.r counter-refusal-reads.Pre counter-refusal-reads.Post
+pub counter-refusal-determined :
+    Determined counter-refusal-kinds.ps counter-refusal-kinds.r counter-refusal-reads.Pre counter-refusal-reads.Post
 counter-refusal-determined = (λ κs a. tt, λ κs a x y v w p q. (only-one p q, refl))
 
-pub modulus-refused-determined : Determined modulus-refused-kinds.ps modulus-refused-kinds.r modulus-refused-reads.Pre modulus-refused-reads.Post
+pub modulus-refused-determined :
+    Determined modulus-refused-kinds.ps modulus-refused-kinds.r modulus-refused-reads.Pre modulus-refused-reads.Post
 modulus-refused-determined = (λ κs a. tt, λ κs a x y v w p q. (only-one p q, refl))
 
 pub record-words-determined : Determined record-words-kinds.ps record-words-kinds.r record-words-reads.Pre record-words-reads.Post

@@ -24,7 +24,8 @@ pub read-record-determined : Determined read-record-kinds.ps read-record-kinds.r
 read-record-determined = (λ κs a. tt, λ κs a x y v w p q. (only-one (p .0) (q .0), rw (only-one (p .1) (q .1))))
 
 -- of a part is seen what it holds, and where in the memory it begins
-pub line-determined : DeterminedAs line-kinds.ps line-kinds.r line-reads.Pre line-reads.Post (λ κs. List ℕ × (ℕ × ℕ)) (λ κs r. (r .now, r .ptr))
+pub line-determined :
+    DeterminedAs line-kinds.ps line-kinds.r line-reads.Pre line-reads.Post (λ κs. List ℕ × (ℕ × ℕ)) (λ κs r. (r .now, r .ptr))
 line-determined = (λ κs a. tt, λ κs a x y v w p q. (rw (only-one (p .0) (q .0), only-one (p .1) (q .1)), refl))
 
 pub line-refusal-determined : Determined line-refusal-kinds.ps line-refusal-kinds.r line-refusal-reads.Pre line-refusal-reads.Post

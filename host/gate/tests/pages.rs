@@ -1,4 +1,4 @@
-//! The pages lead to one another, need no other document, and name what has to be believed.
+//! The pages lead to one another, need no other document, and name what has to be believed; a source fits a page too.
 
 use std::collections::{BTreeMap, BTreeSet};
 use std::path::Path;
@@ -124,4 +124,20 @@ fn what_contracts_cite_from_elsewhere_is_believed_by_name() {
         elsewhere += usize::from(!cited.is_empty());
     }
     assert!(elsewhere > 0);
+}
+
+#[test]
+fn no_line_of_a_crate_is_longer_than_a_page_is_wide() {
+    let mut sources = Vec::new();
+    files(&root().join("crates"), &mut sources);
+    sources.retain(|path| {
+        path.extension()
+            .map_or(false, |kind| kind == "rt" || kind == "antt")
+    });
+    assert!(sources.len() > 200, "{}", sources.len());
+    for path in sources {
+        for line in read(&path).lines() {
+            assert!(line.chars().count() <= 140, "{}: {line}", path.display());
+        }
+    }
 }
