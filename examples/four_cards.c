@@ -1,7 +1,7 @@
 /*
  * Four cards of which one may be broken, and one is: it is silent, so that the
  * others hear nothing but the word for none from it. They start from different
- * counts and step until they have shown one same count for some beats. A line
+ * counts and step until they have shown the same count for some beats. A line
  * is printed for each beat on which a count changes.
  */
 #include <stdio.h>
@@ -15,7 +15,7 @@ enum {
     MODULUS = 1000,
     SILENT = 3,
     ALIKE = 5,                                 /* beats to see before the example ends */
-    SETTLED = TSENDURKHO_SETTLE_BEATS(BROKEN), /* from this beat on they show one same count */
+    SETTLED = TSENDURKHO_SETTLE_BEATS(BROKEN), /* from this beat on they show the same count */
     COUNT = 2 * TSENDURKHO_COUNT_WORD(BROKEN)  /* the count's low byte in a record */
 };
 
@@ -81,7 +81,7 @@ static int same_counts(Record one[CARDS], Record other[CARDS])
     return 1;
 }
 
-/* Do all cards but the silent one show one same count? */
+/* Do all cards but the silent one show the same count? */
 static int agree(Record held[CARDS])
 {
     unsigned count = count_of(held[0]);

@@ -36,7 +36,7 @@ lent size bytes words e l =
       zeros = take-zeros (bytes / 2) size (omega arith) ∙ rw long;
     }
 
--- the buffers of a step that is not refused, where the table has room for so many words
+-- the buffers of a step that is not refused, if the table has room for that many words
 pub record Buffers (n f c card size records out : ℕ) : Type 0 where
   pub table : Lent size records
   pub next : Lent 25 out
