@@ -23,13 +23,13 @@ const HIGH_WORDS: f64 = LANES - 28.0;
 const WORDS_WIDTH: f64 = 370.0;
 
 /// Strong colours that the colour-blind can tell apart too.
-const COLOURS: [&str; 6] = [
-    "#0072b2", "#d55e00", "#009e73", "#aa3377", "#c28e00", "#3d4fb8",
+const COLOURS: [&str; 8] = [
+    "#0072b2", "#d55e00", "#009e73", "#aa3377", "#c28e00", "#3d4fb8", "#4a9fd8", "#7a4419",
 ];
 const GREY: &str = "#7d7d7d";
 
-/// What steps the sound cards.
-const PROGRAM: &str = "the proved archive";
+/// The program of the sound cards.
+const PROGRAM: &str = "the proved archive, linked";
 
 /// A run, and what its cards show after each beat that is drawn.
 pub struct Counts {
@@ -83,7 +83,7 @@ impl Counts {
     fn shape(&self) -> Element {
         let (shape, lies, seed) = (self.run.shape, self.run.lies, self.run.seed);
         let shape = format!("n = {}, f = {}, c = {}", shape.n, shape.f, shape.c);
-        let words = format!("{shape}, lies: {lies}, seed {seed}; {PROGRAM} steps the sound cards");
+        let words = format!("{shape}, lies: {lies}, seed {seed}; the sound cards run {PROGRAM}");
         label((20.0, 34.0), words)
     }
 

@@ -3,17 +3,18 @@
 use generate::Shape;
 
 use crate::archive::ARCHIVE;
-use crate::scale::{horizontal, Scale};
+use crate::scale::{horizontal, round_step, Scale};
 use crate::stamps::{block_apart, lags, runs, BLOCK, RUNS, SHAPE};
-use crate::svg::{group, heading, label, line, rect, wrapped, Drawing, Element};
+use crate::svg::{evenly_wrapped, group, heading, label, line, rect, Drawing, Element};
 
 /// The bins are centred on whole multiples of their width, and reach a block and a half each way.
 const BIN: i32 = 25;
 const BINS_EACH_WAY: i32 = 60;
 
 const WIDTH: f64 = 368.0;
-const TOP: f64 = 48.0;
-const BASE: f64 = 232.0;
+const TITLES: f64 = 38.0;
+const TOP: f64 = TITLES + 16.0;
+const BASE: f64 = TOP + 184.0;
 const CAPTION: f64 = BASE + 66.0;
 const LINE: f64 = 17.0;
 
@@ -33,19 +34,23 @@ pub fn draw() -> Drawing {
     let apart = histogram(&lags(ARCHIVE, &runs, block_apart));
     let as_they_are = histogram(&lags(ARCHIVE, &runs, |_| 0));
     let highest = apart.iter().chain(&as_they_are).copied().max().unwrap_or(0);
+    let step = round_step(highest, 6);
+    let top = (highest / step + 1) * step;
     let comb = Panel {
         left: 64.0,
-        highest,
+        step,
+        top,
         colour: "#c44e1c",
         title: "A comb put in by hand: cards set a block apart",
     };
     let no_comb = Panel {
         left: 512.0,
-        highest,
+        step,
+        top,
         colour: "#0072b2",
-        title: "No comb: counts of the proved archive",
+        title: "No comb: counts of the proved archive, linked",
     };
-    let caption = wrapped(&caption(), 118);
+    let caption = evenly_wrapped(&caption(), 118);
     let lines = caption.iter().zip(0..);
     let lines = lines.map(|(text, i)| label((20.0, CAPTION + LINE * f64::from(i)), text));
     let body = group()
@@ -62,7 +67,9 @@ pub fn draw() -> Drawing {
 /// One histogram with its axes.
 struct Panel {
     left: f64,
-    highest: usize,
+    /// The step of the numbers upward, and the last of them, which is above the highest bar.
+    step: usize,
+    top: usize,
     colour: &'static str,
     title: &'static str,
 }
@@ -76,7 +83,7 @@ impl Panel {
             let y = self.events().place(events as f64);
             rect((x, y), next - x - 0.5, BASE - y)
         }));
-        let title = label((self.left + WIDTH / 2.0, TOP - 10.0), self.title);
+        let title = label((self.left + WIDTH / 2.0, TITLES), self.title);
         group()
             .child(title.with("text-anchor", "middle").with("font-size", 13))
             .child(self.events_axis())
@@ -99,7 +106,7 @@ impl Panel {
     fn events(&self) -> Scale {
         Scale {
             low: 0.0,
-            high: self.highest as f64,
+            high: self.top as f64,
             start: BASE,
             end: TOP,
         }
@@ -114,14 +121,14 @@ impl Panel {
     }
 
     fn events_axis(&self) -> Element {
-        let ticks = self.events().ticks(6);
-        let lines = ticks.iter().flat_map(|&events| {
+        let numbers = (0..=self.top).step_by(self.step);
+        let lines = numbers.flat_map(|events| {
             let y = self.events().place(events as f64);
             let grid = line((self.left, y), (self.left + WIDTH, y)).with("stroke", "#e2e2e2");
             let number = label((self.left - 6.0, y + 4.0), events).with("text-anchor", "end");
             [grid, number]
         });
-        let name = label((self.left - 6.0, TOP - 10.0), "events").with("text-anchor", "end");
+        let name = label((self.left - 6.0, TITLES), "events").with("text-anchor", "end");
         group().children(lines).child(name)
     }
 }

@@ -62,7 +62,8 @@ fn stacked(title: &str, parts: Vec<Drawing>) -> Element {
         .child(group().children(bodies).with("fill", "#1b1b1b"))
 }
 
-const DESCRIPTION: &str = "Above, beats across and a lane for each card with its count: the sound \
-    cards, which the proved archive steps, come to one count before T(f). Below, histograms of the \
+const DESCRIPTION: &str =
+    "Above, beats across and a lane for each card with its counts: the sound \
+    cards, which run the proved archive, come to one count before T(f). Below, histograms of the \
     lag between two cards: on the left three teeth, put in by hand, as the cards are set a block \
-    apart in some runs; on the right the one tooth of cards that the proved archive steps.";
+    apart in some runs; on the right the one tooth of cards that run the proved archive.";

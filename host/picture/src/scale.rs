@@ -20,12 +20,6 @@ impl Scale {
     pub fn has(self, number: f64) -> bool {
         self.low <= number && number <= self.high
     }
-
-    /// From 0 in round steps, such that there are at most that many.
-    pub fn ticks(self, most: usize) -> Vec<usize> {
-        let high = self.high as usize;
-        (0..=high).step_by(round_step(high, most)).collect()
-    }
 }
 
 /// The least step of 1, 2 or 5 times a power of ten that goes fewer than that many times into a length.

@@ -108,8 +108,17 @@ pub fn heading(text: impl Display) -> Element {
     heading.with("font-weight", "bold")
 }
 
-/// The lines of a text, each of at most that many characters. It is cut only at plain spaces.
-pub fn wrapped(text: &str, longest: usize) -> Vec<String> {
+/// The lines of a text, each of at most that many characters: as few lines as can be, and all but
+/// the last about as long.
+pub fn evenly_wrapped(text: &str, longest: usize) -> Vec<String> {
+    let lines = wrapped(text, longest);
+    let mut narrower = (1..longest).map(|width| wrapped(text, width));
+    let even = narrower.find(|narrow| narrow.len() == lines.len());
+    even.unwrap_or(lines)
+}
+
+/// The lines of a text, each filled up to that many characters. It is cut only at plain spaces.
+fn wrapped(text: &str, longest: usize) -> Vec<String> {
     let mut lines: Vec<String> = Vec::new();
     for word in text.split(' ') {
         match lines.last_mut() {

@@ -20,7 +20,7 @@ use simulate::survey::Outcome;
 use xml::{parse, Node};
 
 /// Runs of few and of many cards, with small and large moduli, with and without broken cards.
-const SEEDS: [u64; 6] = [DRAWN, 0, 2, 20, 1_732, 1_840];
+const SEEDS: [u64; 7] = [DRAWN, 0, 2, 20, 1_123, 1_732, 1_840];
 
 /// The picture of a seed, which is drawn once for all tests.
 fn drawn(seed: u64) -> String {
@@ -325,7 +325,7 @@ fn drawn_without(svg: &Node, card: usize) -> BTreeSet<usize> {
 /// The second implementation goes through the same run: what it shows is what is drawn.
 #[test]
 fn the_lines_are_the_counts_of_the_run() {
-    for seed in [DRAWN, 212, 1_634, 5_932] {
+    for seed in [DRAWN, 212, 1_123, 1_634, 5_932] {
         let (svg, plan) = (read(seed), Plan::of(seed));
         let (cards, bound, beats) = (plan.shape.n as usize, plan.bound(), Beats::new(&svg));
         let shown = plan.shown(RIGHT, bound + BEYOND);
@@ -348,7 +348,7 @@ fn the_lines_are_the_counts_of_the_run() {
 #[test]
 fn what_is_cut_has_no_count_of_a_sound_card() {
     let mut cuts = 0;
-    for seed in [DRAWN, 212, 1_634, 5_932] {
+    for seed in [DRAWN, 212, 1_123, 1_634, 5_932] {
         let (svg, plan) = (read(seed), Plan::of(seed));
         let (broken, bound) = (plan.broken, plan.bound());
         let shown = plan.shown(RIGHT, bound + BEYOND);
@@ -418,7 +418,7 @@ fn together_since(svg: &Node, plan: &Plan) -> usize {
 
 #[test]
 fn the_marks_are_at_the_beats_of_the_run() {
-    for seed in [DRAWN, 212] {
+    for seed in [DRAWN, 212, 1_123] {
         let (svg, plan, run) = (read(seed), Plan::of(seed), Outcome::of(seed, RIGHT, 1));
         let mark = |id| {
             let mark = svg.with_id(id);
@@ -430,6 +430,38 @@ fn the_marks_are_at_the_beats_of_the_run() {
         assert_eq!(mark("bound"), params::settled(plan.shape.f as usize));
         assert_ne!(mark("agreement"), mark("bound"));
     }
+}
+
+/// What the legend says of a broken card is there to see, before the cards agree and from then on.
+#[test]
+fn the_broken_card_of_the_drawn_run_sends_different_counts() {
+    let (svg, plan, run) = (read(DRAWN), Plan::of(DRAWN), Outcome::of(DRAWN, RIGHT, 1));
+    let agreement = run.together_since.expect("the cards agree");
+    assert!(2 * agreement > run.bound, "they agree late");
+    let mut broken = (0..plan.shape.n as usize).filter(|&card| is_broken(plan.broken, card));
+    let lane = drawn_counts(&svg, broken.next().expect("a card is broken"));
+    for beats in [0..agreement, agreement..run.bound + BEYOND] {
+        let sent: Vec<_> = lane.range(beats.clone()).collect();
+        assert!(2 * sent.len() > beats.len(), "on most beats a count");
+        assert!(sent.iter().any(|(_, counts)| counts.len() > 1));
+    }
+}
+
+#[test]
+fn the_first_eight_cards_have_colours_of_their_own() {
+    let mut most = 0;
+    for seed in SEEDS {
+        let (svg, plan) = (read(seed), Plan::of(seed));
+        let cards = (0..8.min(plan.shape.n as usize)).filter(|&card| !is_broken(plan.broken, card));
+        let strokes = cards.map(|card| {
+            let path = svg.with_id(&format!("card{card}"));
+            path.attribute("stroke").expect("a colour").to_string()
+        });
+        let strokes: Vec<_> = strokes.collect();
+        assert_eq!(strokes.iter().collect::<BTreeSet<_>>().len(), strokes.len());
+        most = most.max(strokes.len());
+    }
+    assert_eq!(most, 8);
 }
 
 /// The texts of a part in one.
@@ -447,8 +479,8 @@ fn it_says_what_is_put_in_by_hand_and_what_comes_from_the_archive() {
     let [comb, no_comb] = ["comb", "nocomb"].map(|id| words(svg.with_id(id)));
     assert!(comb.contains("A comb put in by hand: cards set a block apart"));
     assert!(!comb.contains("archive"));
-    assert!(no_comb.contains("No comb: counts of the proved archive"));
-    assert!(words(&svg).contains("the proved archive steps the sound cards"));
+    assert!(no_comb.contains("No comb: counts of the proved archive, linked"));
+    assert!(words(&svg).contains("the sound cards run the proved archive, linked"));
 }
 
 /// The drawn bins of a histogram: the middle of each in blocks, and its events.
@@ -461,12 +493,14 @@ fn drawn_bins(svg: &Node, id: &str) -> Vec<(f64, f64)> {
         groups.collect::<Vec<_>>()[1 + axis]
     };
     let events = labels(with_numbers(0), |text| text.number("y") - 4.0);
+    let highest = events[events.len() - 1].1;
     let (events, base) = (Axis::new(&events), events[0].1);
     let blocks = Axis::new(&labels(with_numbers(1), |text| text.number("x")));
     let bars = panel.named("rect").into_iter();
     bars.map(|bar| {
         let middle = bar.number("x") + bar.number("width") / 2.0;
         let top = bar.number("y");
+        assert!(top > highest, "{id}: a bar goes beyond the numbers");
         assert!((top + bar.number("height") - base).abs() < 0.11);
         (blocks.number(middle), events.number(top))
     })
