@@ -89,6 +89,15 @@ fn arguments_that_a_tool_does_not_take() {
     for (words, said) in [
         (&["simulate", "--fast"][..], "there is no option '--fast'"),
         (&["simulate", "1", "2"], "one argument too many: '2'"),
+        (&["simulate", "--svg"], "--svg needs a FILE"),
+        (
+            &["simulate", "--svg", "."],
+            "'.' is a directory, and a file is wanted",
+        ),
+        (
+            &["simulate", "--svg", "run.svg", "5"],
+            "these do not go together: --svg run.svg 5",
+        ),
         (&["compare", "--fast"], "there is no option '--fast'"),
         (&["compare", "1", "2", "3"], "one argument too many: '3'"),
         (&["mutate", "--fast"], "there is no option '--fast'"),
