@@ -23,11 +23,15 @@ not_made() { # PRODUCT...
     done
 }
 
+need_rt() { # WHAT CANNOT BE DONE WITHOUT IT
+    command -v rt >/dev/null || fail "$1: the Rattle kit's rt is not on the PATH"
+}
+
 # Makes those products that were not made from these sources. No product has a space in its name.
 provide() { # PRODUCT...
     missing=$(not_made "$@")
     [ -n "$missing" ] || return 0
-    command -v rt >/dev/null || fail "$(names_of "$@") cannot be proved and built: the Rattle kit's rt is not on the PATH"
+    need_rt "$(names_of "$@") cannot be proved and built"
     wait_for_others
     # shellcheck disable=SC2086
     missing=$(not_made $missing)

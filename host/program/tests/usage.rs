@@ -172,8 +172,8 @@ fn bare(place: &Path, words: &[&str]) -> Output {
 
 fn bare_copy(name: &str) -> PathBuf {
     let place = scratch(name);
-    let copy = "cp -R tsendurkho launch VERSION \"$1\" && mkdir \"$1/bin\" && \
-                for tool in sh awk cat dirname paste sed; do ln -s \"$(command -v $tool)\" \"$1/bin\"; done";
+    let copy = "cp -R tsendurkho launch .ci VERSION \"$1\" && mkdir \"$1/bin\" && \
+                for tool in sh bash awk cat dirname paste sed; do ln -s \"$(command -v $tool)\" \"$1/bin\"; done";
     let copied = Command::new("sh")
         .args(["-c", copy, "sh", word(&place)])
         .current_dir(root())
@@ -254,6 +254,18 @@ fn a_missing_tool() {
     let place = bare_copy("missing-tools");
     for (words, said) in [
         (&["simulate"][..], "tsendurkho: simulate needs cargo\n"),
+        (
+            &["simulate", "--svg", "run.svg"],
+            "tsendurkho: simulate needs cargo\n",
+        ),
+        (
+            &["test"],
+            "tsendurkho: the gate cannot be run: the Rattle kit's rt is not on the PATH\n",
+        ),
+        (
+            &["stats"],
+            "stats: the seconds cannot be measured: the Rattle kit's rt is not on the PATH\n",
+        ),
         (
             &["build"],
             "tsendurkho: the run program and the archive cannot be proved and built: \
