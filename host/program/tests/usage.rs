@@ -104,17 +104,32 @@ fn arguments_that_a_tool_does_not_take() {
         (&["mutate", "lug"], "'lug' is not a library in crates.txt"),
         (
             &["mutate", "--only", "no such edit", "lag"],
-            "no edit has the number or name 'no such edit'",
+            "no edit matches --only 'no such edit'",
         ),
         (
             &["mutate", "--list", "--only", "999999", "lag"],
-            "no edit has the number or name '999999'",
+            "no edit matches --only '999999'",
+        ),
+        (
+            &["mutate", "settle", "rules"],
+            "there is nothing to edit in settle, rules",
         ),
     ] {
         let tool = words[0];
         let line = format!("{tool}: {said}; try ./tsendurkho {tool} --help");
         assert_wrong(words, &line);
     }
+}
+
+/// The other libraries are worked through.
+#[test]
+fn a_library_without_code_is_named() {
+    let (output, errors, code) = parts(&launched(&["mutate", "--list", "rules", "lag"]));
+    assert!(output.contains(" lag/src/lib.rt:"), "{output}");
+    assert_eq!(
+        (errors.as_str(), code),
+        ("mutate: there is nothing to edit in rules\n", Some(0))
+    );
 }
 
 #[test]
