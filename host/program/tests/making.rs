@@ -328,6 +328,18 @@ fn on_a_terminal_the_line_is_overwritten_and_cleared() {
     assert_eq!(on_terminal(&place, "./tsendurkho build"), "");
 }
 
+/// As by Ctrl-C, which reaches all that the terminal has started.
+#[test]
+fn on_a_terminal_an_interrupted_build_clears_its_line() {
+    let place = Repository::new("interrupted");
+    place.write_program("bin/rt", "#!/bin/sh\nkill -INT 0\n");
+    let clear = "\r\x1b[K";
+    let said = on_terminal(&place, "exec ./tsendurkho build");
+    let line = "tsendurkho: proving the run program and the archive, about 3 minutes";
+    assert_eq!(said, format!("{clear}{line}{clear}"));
+    assert!(!place.0.join("target/made/blockrun").exists());
+}
+
 /// A build that has started, and the first line that it says.
 fn started(place: &Repository) -> (Child, BufReader<ChildStderr>, String) {
     let mut command = place.command("./tsendurkho");
