@@ -22,8 +22,21 @@ recorded() { # files put | folders made
     [ ! -f "$place/$record" ] || sed -n "s/^# $1 by install: //p" "$place/$record"
 }
 
+# A file that is there already and is not in the record is somebody else's.
+leave_others_files() {
+    put=$(recorded 'files put')
+    for file in $files; do
+        case " $put " in
+        *" $file "*) ;;
+        *) [ ! -e "$place/$file" ] && [ ! -L "$place/$file" ] ||
+            fail "'$place/$file' is there, and install did not put it there, so nothing is installed" ;;
+        esac
+    done
+}
+
 # The record is written first, so that an interrupted install can be removed too.
 install_below() {
+    leave_others_files
     provide "$program" "$archive"
     made=$(recorded 'folders made')
     for folder in bin include lib lib/pkgconfig; do

@@ -23,11 +23,15 @@ not_made() { # PRODUCT...
     done
 }
 
+need_rt() { # WHAT CANNOT BE DONE WITHOUT IT
+    command -v rt >/dev/null || fail "$1: the Rattle kit's rt is not on the PATH"
+}
+
 # Makes those products that were not made from these sources. No product has a space in its name.
 provide() { # PRODUCT...
     missing=$(not_made "$@")
     [ -n "$missing" ] || return 0
-    command -v rt >/dev/null || fail "$(names_of "$@") cannot be proved and built: the Rattle kit's rt is not on the PATH"
+    need_rt "$(names_of "$@") cannot be proved and built"
     wait_for_others
     # shellcheck disable=SC2086
     missing=$(not_made $missing)
@@ -36,16 +40,19 @@ provide() { # PRODUCT...
     exec 9<&-
 }
 
+# Ctrl-C clears the line on the terminal before it ends the launcher.
 make() { # PRODUCT...
     time=$(expected_time "$@")
     announce "proving $(names_of "$@"), $time"
+    [ ! -t 2 ] || trap 'clear_line; trap - INT; kill -INT $$' INT
     mkdir -p "$root/target/made"
     for product; do
         sources=$(sum_of_sources)
         build "$product" || fail_with_log "$(names_of "$product") could not be built"
         { printf '%s\n' "$sources" && sha256sum <"$root/$product"; } >"$root/target/made/${product##*/}"
     done
-    [ ! -t 2 ] || printf '\r\033[K' >&2
+    clear_line
+    trap - INT
 }
 
 names_of() { # PRODUCT...
@@ -74,6 +81,10 @@ announce() { # TEXT
     else
         printf 'tsendurkho: %s\n' "$1" >&2
     fi
+}
+
+clear_line() {
+    [ ! -t 2 ] || printf '\r\033[K' >&2
 }
 
 # How long it takes, by the table's seconds: the products' own crates, and those before them that rt has to prove.
@@ -105,12 +116,13 @@ build() { # PRODUCT
 
 log=$root/target/build.log
 
-# What rt prints is kept, and shown if it fails.
+# What rt prints is kept, and shown if it fails. Its status comes through a pipe of its own, which rt does not have: a prover
+# that Ctrl-C leaves running would keep the launcher waiting.
 ask_rt() { # PRODUCT
     [ "$1" = "$program" ] && asked=check || asked=staticlib
     set -- "$asked" "$(crate_of "$1")"
     mkdir -p "$root/target"
-    ended=$({ { (cd "$root" && rt "$@") </dev/null 2>&1 && echo 0 >&5 || echo $? >&5; } | keep_log; } 5>&1 >/dev/null)
+    ended=$({ { (cd "$root" && rt "$@") </dev/null 2>&1 5>&- && echo 0 >&5 || echo $? >&5; } | keep_log; } 5>&1 >/dev/null)
     return "${ended:-1}"
 }
 
@@ -126,7 +138,7 @@ keep_log() {
 }
 
 fail_with_log() { # MESSAGE
-    [ ! -t 2 ] || printf '\r\033[K' >&2
+    clear_line
     tail -n 40 "$log" >&2
     fail "$1; all that rt printed is in target/build.log"
 }

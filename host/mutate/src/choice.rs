@@ -4,6 +4,13 @@ use std::collections::HashMap;
 
 use crate::mutant::Mutant;
 
+/// Those of the crates that have no mutant.
+pub fn without_code<'a>(crates: &'a [String], mutants: &[Mutant]) -> Vec<&'a str> {
+    let has_code = |library: &str| mutants.iter().any(|mutant| mutant.library == library);
+    let names = crates.iter().map(String::as_str);
+    names.filter(|library| !has_code(library)).collect()
+}
+
 #[derive(Clone, Debug, PartialEq, Eq)]
 pub enum Choice {
     /// Evenly spread: of each kind in each crate the first, and then every nth.

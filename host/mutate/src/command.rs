@@ -20,15 +20,15 @@ pub fn request(arguments: &[String]) -> Result<Request, String> {
     };
     let mut words = arguments.iter();
     while let Some(word) = words.next() {
-        let mut value = || words.next().ok_or(format!("{word} needs a value"));
+        let mut value = |name| words.next().ok_or(format!("{word} needs {name}"));
         match word.as_str() {
             "--list" => request.list = true,
             "--all" | "--only" if request.choice != Choice::Spread => {
                 return Err("at most one of --all and --only is allowed".to_string());
             }
             "--all" => request.choice = Choice::All,
-            "--only" => request.choice = Choice::only(value()?),
-            "--jobs" => request.jobs = Some(jobs(value()?)?),
+            "--only" => request.choice = Choice::only(value("a number or a text")?),
+            "--jobs" => request.jobs = Some(jobs(value("a number N")?)?),
             option if option.starts_with('-') => {
                 return Err(format!("there is no option '{option}'"));
             }

@@ -6,6 +6,7 @@ use std::io;
 use std::process::ExitCode;
 use std::thread;
 
+use mutate::choice::without_code;
 use mutate::command::{request, Request};
 use mutate::copies::Workplace;
 use mutate::ending::Ending;
@@ -49,11 +50,16 @@ fn answer(request: &Request) -> Result<bool, Failure> {
     for library in &crates {
         mutants_of_all.extend(mutants(&root(), library).map_err(failed)?);
     }
+    let without_code = without_code(&request.crates, &mutants_of_all).join(", ");
+    let nothing_to_edit = format!("there is nothing to edit in {without_code}");
     let chosen = request.choice.of(&mutants_of_all);
-    if let (true, Some(which)) = (chosen.is_empty(), request.choice.which()) {
-        return Err(Failure::WrongUse(format!(
-            "no edit has the number or name '{which}'"
-        )));
+    if chosen.is_empty() {
+        let which = request.choice.which();
+        let unmatched = which.map(|which| format!("no edit matches --only '{which}'"));
+        return Err(Failure::WrongUse(unmatched.unwrap_or(nothing_to_edit)));
+    }
+    if !without_code.is_empty() {
+        eprintln!("mutate: {nothing_to_edit}");
     }
     if request.list {
         chosen

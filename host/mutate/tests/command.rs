@@ -3,7 +3,7 @@
 mod common;
 
 use common::mutants_in;
-use mutate::choice::Choice;
+use mutate::choice::{without_code, Choice};
 use mutate::command::{request, Request};
 
 fn asked(words: &[&str]) -> Result<Request, String> {
@@ -50,10 +50,10 @@ fn options_and_crates_may_be_mixed() {
 #[test]
 fn wrong_arguments_are_named() {
     for (wrong, said) in [
-        (&["--jobs"][..], "--jobs needs a value"),
+        (&["--jobs"][..], "--jobs needs a number N"),
         (&["--jobs", "0"], "N has to be a number from 1 on, not '0'"),
         (&["--jobs", "x"], "N has to be a number from 1 on, not 'x'"),
-        (&["--only"], "--only needs a value"),
+        (&["--only"], "--only needs a number or a text"),
         (&["--every"], "there is no option '--every'"),
         (
             &["--all", "--only", "1"],
@@ -99,6 +99,14 @@ fn one_is_chosen_by_its_number_or_by_its_name() {
         assert_eq!(Choice::only(which).which().as_deref(), Some(which));
     }
     assert_eq!((Choice::All.which(), Choice::Spread.which()), (None, None));
+}
+
+#[test]
+fn crates_without_code_are_found() {
+    let crates = ["sample", "empty", "bare"].map(String::from);
+    let mutants = mutants_in(SAMPLE);
+    assert_eq!(without_code(&crates, &mutants), ["empty", "bare"]);
+    assert!(without_code(&crates[..1], &mutants).is_empty());
 }
 
 #[test]

@@ -1,7 +1,6 @@
 //! What the program does with its arguments.
 
 use std::fs;
-use std::path::Path;
 
 use simulate::command::{request, Request};
 use simulate::cooldown::RIGHT;
@@ -28,11 +27,6 @@ pub fn answer(arguments: &[&str]) -> Result<String, Failure> {
         Request::Picture { file, seed } => (file, seed.unwrap_or(DRAWN)),
         _ => return Err(wrong("--svg FILE is missing")),
     };
-    if Path::new(file).is_dir() {
-        return Err(wrong(&format!(
-            "'{file}' is a directory, and a file is wanted"
-        )));
-    }
     let failed =
         |error| Failure::NotWritten(format!("simulate: '{file}' cannot be written: {error}\n"));
     fs::write(file, picture(seed)).map_err(failed)?;

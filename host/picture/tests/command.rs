@@ -39,9 +39,9 @@ fn wrong_arguments_are_named() {
     let directory = format!("'{folder}' is a directory, and a file is wanted");
     for (wrong, said) in [
         (&[][..], "--svg FILE is missing"),
-        (&["--svg"], "--svg needs a value"),
+        (&["--svg"], "--svg needs a FILE"),
         (&["--svg", folder], &directory),
-        (&["--svg", "/dev/null", "--seed"], "--seed needs a value"),
+        (&["--svg", "/dev/null", "--seed"], "--seed needs a SEED"),
         (
             &["--svg", "/dev/null", "--seed", "many"],
             "SEED has to be a number, not 'many'",

@@ -1,6 +1,7 @@
 //! `install` records what it puts below a PREFIX, and `uninstall` removes what is recorded and nothing else.
 
 use std::fs;
+use std::os::unix::fs::symlink;
 use std::path::{Path, PathBuf};
 use std::process::{Command, Output};
 
@@ -120,9 +121,40 @@ fn without_a_record_nothing_is_removed() {
     )
     .expect("a record");
     nothing_is_removed(&place, &said);
-    done(&["install", word(&place)]);
-    done(&["uninstall", word(&place)]);
-    assert_eq!(contents(&place), paths(&["lib", "lib/pkgconfig"]));
+    nothing_is_installed(&place, &place.join("bin/blockrun"));
+}
+
+/// In the place of any of those that are installed. A link that leads nowhere counts too.
+#[test]
+fn somebody_elses_file_is_not_replaced() {
+    let place = scratch("install-theirs");
+    for name in [
+        "bin/blockrun",
+        "include/tsendurkho.h",
+        "lib/libtsendurkho.a",
+        RECORD,
+    ] {
+        let inner = place.join(name.replace('/', "-"));
+        let theirs = inner.join(name);
+        fs::create_dir_all(theirs.parent().expect("a folder")).expect("folders can be made");
+        symlink("nowhere", &theirs).expect("a link can be made");
+        nothing_is_installed(&inner, &theirs);
+        fs::remove_file(&theirs).expect("the link is there");
+        fs::write(&theirs, "theirs").expect("a file can be written");
+        nothing_is_installed(&inner, &theirs);
+        assert_eq!(fs::read(&theirs).expect("it is there"), b"theirs");
+    }
+}
+
+fn nothing_is_installed(place: &Path, theirs: &Path) {
+    let before = contents(place);
+    let said = format!(
+        "tsendurkho: '{}' is there, and install did not put it there, so nothing is installed\n",
+        theirs.display()
+    );
+    let ended = launched(&["install", word(place)]);
+    assert_eq!(parts(&ended), (String::new(), said, Some(1)));
+    assert_eq!(contents(place), before);
 }
 
 #[test]
@@ -162,6 +194,16 @@ fn files_of_an_older_version() {
     done(&["install", word(&place)]);
     done(&["uninstall", word(&place)]);
     assert_eq!(contents(&place), paths(&[]));
+}
+
+/// The record is written first, so it names files that are not there yet.
+#[test]
+fn an_interrupted_install_is_completed() {
+    let place = scratch("install-interrupted");
+    done(&["install", word(&place)]);
+    fs::remove_file(place.join("lib/libtsendurkho.a")).expect("the archive is there");
+    done(&["install", word(&place)]);
+    assert_eq!(contents(&place), paths(&INSTALLED));
 }
 
 fn with_destination(stage: &Path, words: &[&str]) -> Output {

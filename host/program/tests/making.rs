@@ -65,10 +65,14 @@ impl Repository {
         place.write("crates.txt", CRATES);
         place.write("crates/only/src/lib.rt", "first\n");
         place.write("docs/ECONOMY.md", TABLE);
-        place.write("bin/rt", STAND_IN);
-        fs::set_permissions(place.0.join("bin/rt"), Permissions::from_mode(0o755))
-            .expect("it can be made a program");
+        place.write_program("bin/rt", STAND_IN);
         place
+    }
+
+    fn write_program(&self, file: &str, text: &str) {
+        self.write(file, text);
+        fs::set_permissions(self.0.join(file), Permissions::from_mode(0o755))
+            .expect("it can be made a program");
     }
 
     fn write(&self, file: &str, text: &str) {
@@ -271,6 +275,29 @@ fn a_build_that_fails() {
     assert_eq!(place.asked(), ASKED);
 }
 
+/// The program that reads the arguments of a drawing comes before the proofs; if it finds a fault, it has said so.
+#[test]
+fn wrong_arguments_of_a_drawing_prove_nothing() {
+    let place = Repository::new("wrong-drawing");
+    let stand_in = "#!/bin/sh\necho \"$*\" >>started\nexit 2\n";
+    place.write_program("bin/cargo", stand_in);
+    let words = ["simulate", "--svg", "run.svg", "5"];
+    let ended = place.command("./tsendurkho").args(words).output();
+    assert_eq!(
+        parts(&ended.expect("the launcher starts")),
+        (String::new(), String::new(), Some(2))
+    );
+    let started = place.read("started");
+    assert!(
+        started.ends_with(" --package simulate -- --svg run.svg 5\n"),
+        "{started}"
+    );
+    assert_eq!(
+        (started.lines().count(), place.read("asked").as_str()),
+        (1, "")
+    );
+}
+
 /// All that a terminal gets.
 fn on_terminal(place: &Repository, command: &str) -> String {
     let script = ["--quiet", "--return", "--command", command, "/dev/null"];
@@ -299,6 +326,18 @@ fn on_a_terminal_the_line_is_overwritten_and_cleared() {
         line(" the run program and the archive, about 3 minutes") + &crates + &crates + clear;
     assert_eq!(on_terminal(&place, "./tsendurkho build"), said);
     assert_eq!(on_terminal(&place, "./tsendurkho build"), "");
+}
+
+/// As by Ctrl-C, which reaches all that the terminal has started.
+#[test]
+fn on_a_terminal_an_interrupted_build_clears_its_line() {
+    let place = Repository::new("interrupted");
+    place.write_program("bin/rt", "#!/bin/sh\nkill -INT 0\n");
+    let clear = "\r\x1b[K";
+    let said = on_terminal(&place, "exec ./tsendurkho build");
+    let line = "tsendurkho: proving the run program and the archive, about 3 minutes";
+    assert_eq!(said, format!("{clear}{line}{clear}"));
+    assert!(!place.0.join("target/made/blockrun").exists());
 }
 
 /// A build that has started, and the first line that it says.

@@ -89,23 +89,47 @@ fn arguments_that_a_tool_does_not_take() {
     for (words, said) in [
         (&["simulate", "--fast"][..], "there is no option '--fast'"),
         (&["simulate", "1", "2"], "one argument too many: '2'"),
+        (&["simulate", "--svg"], "--svg needs a FILE"),
+        (
+            &["simulate", "--svg", "."],
+            "'.' is a directory, and a file is wanted",
+        ),
+        (
+            &["simulate", "--svg", "run.svg", "5"],
+            "these do not go together: --svg run.svg 5",
+        ),
         (&["compare", "--fast"], "there is no option '--fast'"),
         (&["compare", "1", "2", "3"], "one argument too many: '3'"),
         (&["mutate", "--fast"], "there is no option '--fast'"),
         (&["mutate", "lug"], "'lug' is not a library in crates.txt"),
         (
             &["mutate", "--only", "no such edit", "lag"],
-            "no edit has the number or name 'no such edit'",
+            "no edit matches --only 'no such edit'",
         ),
         (
             &["mutate", "--list", "--only", "999999", "lag"],
-            "no edit has the number or name '999999'",
+            "no edit matches --only '999999'",
+        ),
+        (
+            &["mutate", "settle", "rules"],
+            "there is nothing to edit in settle, rules",
         ),
     ] {
         let tool = words[0];
         let line = format!("{tool}: {said}; try ./tsendurkho {tool} --help");
         assert_wrong(words, &line);
     }
+}
+
+/// The other libraries are worked through.
+#[test]
+fn a_library_without_code_is_named() {
+    let (output, errors, code) = parts(&launched(&["mutate", "--list", "rules", "lag"]));
+    assert!(output.contains(" lag/src/lib.rt:"), "{output}");
+    assert_eq!(
+        (errors.as_str(), code),
+        ("mutate: there is nothing to edit in rules\n", Some(0))
+    );
 }
 
 #[test]
@@ -163,8 +187,8 @@ fn bare(place: &Path, words: &[&str]) -> Output {
 
 fn bare_copy(name: &str) -> PathBuf {
     let place = scratch(name);
-    let copy = "cp -R tsendurkho launch VERSION \"$1\" && mkdir \"$1/bin\" && \
-                for tool in sh awk cat dirname paste sed; do ln -s \"$(command -v $tool)\" \"$1/bin\"; done";
+    let copy = "cp -R tsendurkho launch .ci VERSION \"$1\" && mkdir \"$1/bin\" && \
+                for tool in sh bash awk cat dirname paste sed; do ln -s \"$(command -v $tool)\" \"$1/bin\"; done";
     let copied = Command::new("sh")
         .args(["-c", copy, "sh", word(&place)])
         .current_dir(root())
@@ -245,6 +269,18 @@ fn a_missing_tool() {
     let place = bare_copy("missing-tools");
     for (words, said) in [
         (&["simulate"][..], "tsendurkho: simulate needs cargo\n"),
+        (
+            &["simulate", "--svg", "run.svg"],
+            "tsendurkho: simulate needs cargo\n",
+        ),
+        (
+            &["test"],
+            "tsendurkho: the gate cannot be run: the Rattle kit's rt is not on the PATH\n",
+        ),
+        (
+            &["stats"],
+            "stats: the seconds cannot be measured: the Rattle kit's rt is not on the PATH\n",
+        ),
         (
             &["build"],
             "tsendurkho: the run program and the archive cannot be proved and built: \

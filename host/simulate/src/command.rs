@@ -1,5 +1,7 @@
 //! What the program answers to its arguments.
 
+use std::path::Path;
+
 use crate::cooldown::{Cooldown, HALF, RIGHT, TOO_SOON};
 use crate::report::{line, side_by_side, table, tried};
 use crate::strategy::STRATEGIES;
@@ -51,11 +53,15 @@ fn given<'a>(arguments: &[&'a str]) -> Result<Given<'a>, String> {
     let mut given = Given::default();
     let mut words = arguments.iter().copied();
     while let Some(word) = words.next() {
-        let mut value = || words.next().ok_or(format!("{word} needs a value"));
+        let mut value = |name| words.next().ok_or(format!("{word} needs {name}"));
         match word {
-            "--fault" => once(word, &mut given.fault, known_fault(value()?)?)?,
-            "--seed" => once(word, &mut given.seed, number("SEED", value()?)?)?,
-            "--svg" => once(word, &mut given.svg, value()?)?,
+            "--fault" => once(
+                word,
+                &mut given.fault,
+                known_fault(value("the word cooldown")?)?,
+            )?,
+            "--seed" => once(word, &mut given.seed, number("SEED", value("a SEED")?)?)?,
+            "--svg" => once(word, &mut given.svg, no_folder(value("a FILE")?)?)?,
             "--lies" => once(word, &mut given.lies, ())?,
             _ if word.starts_with('-') => return Err(format!("there is no option '{word}'")),
             _ if given.runs.is_some() => return Err(format!("one argument too many: '{word}'")),
@@ -74,7 +80,12 @@ fn once<T>(option: &str, place: &mut Option<T>, value: T) -> Result<(), String> 
 
 fn known_fault(name: &str) -> Result<&str, String> {
     let known = Some(name).filter(|&name| name == "cooldown");
-    known.ok_or_else(|| format!("--fault takes only 'cooldown', not '{name}'"))
+    known.ok_or_else(|| format!("the only fault is 'cooldown', not '{name}'"))
+}
+
+fn no_folder(file: &str) -> Result<&str, String> {
+    let fit = Some(file).filter(|file| !Path::new(file).is_dir());
+    fit.ok_or_else(|| format!("'{file}' is a directory, and a file is wanted"))
 }
 
 fn number(name: &str, text: &str) -> Result<u64, String> {
@@ -112,17 +123,15 @@ impl From<String> for Answer {
     }
 }
 
-/// A picture is not drawn here, since what links the archive stands apart.
+/// A picture is not drawn here, since what links the archive stands apart: the launcher starts that once this program has
+/// found no fault in the arguments.
 pub fn answer(request: &Request) -> Answer {
     match *request {
         Request::Agreement(runs) => agreement(runs),
         Request::Fault(runs) => fault(runs),
         Request::OneRun(seed) => with_each_cooldown(seed),
         Request::Lies => lies(),
-        Request::Picture { .. } => Answer {
-            errors: "simulate: the package picture draws with --svg\n".to_string(),
-            ..Answer::default()
-        },
+        Request::Picture { .. } => Answer::default(),
     }
 }
 

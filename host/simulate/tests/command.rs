@@ -92,15 +92,16 @@ fn wrong_arguments_are_named() {
         (&["-1"], "there is no option '-1'"),
         (&["--fast"], "there is no option '--fast'"),
         (&["1", "2"], "one argument too many: '2'"),
-        (&["--fault"], "--fault needs a value"),
+        (&["--fault"], "--fault needs the word cooldown"),
         (
             &["--fault", "kings"],
-            "--fault takes only 'cooldown', not 'kings'",
+            "the only fault is 'cooldown', not 'kings'",
         ),
-        (&["--seed"], "--seed needs a value"),
+        (&["--seed"], "--seed needs a SEED"),
         (&["--seed", "many"], "SEED has to be a number, not 'many'"),
         (&["--seed", "1", "--seed", "2"], "--seed is given twice"),
-        (&["--svg"], "--svg needs a value"),
+        (&["--svg", "."], "'.' is a directory, and a file is wanted"),
+        (&["--svg"], "--svg needs a FILE"),
         (
             &["--lies", "--seed", "1"],
             "these do not go together: --lies --seed 1",
@@ -115,10 +116,8 @@ fn wrong_arguments_are_named() {
     }
 }
 
-/// What links the archive is apart.
+/// What links the archive is apart, and starts if nothing is said here.
 #[test]
 fn a_picture_is_not_drawn_here() {
-    let Answer { output, errors } = answer_to(&["--svg", "run.svg"]);
-    assert_eq!(output, "");
-    assert_eq!(errors.lines().count(), 1, "{errors}");
+    assert_eq!(answer_to(&["--svg", "run.svg"]), Answer::default());
 }
