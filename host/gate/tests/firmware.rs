@@ -53,7 +53,7 @@ fn the_example_prints_what_is_said() {
     let program = source.with_file_name("card");
     let mut cc = compiler();
     // Linked statically, because the emulator has no x86-64 libraries to load.
-    cc.args((ARCH != "x86_64").then(|| "-static"));
+    cc.args((ARCH != "x86_64").then_some("-static"));
     assert_compiles(cc.arg(source).arg(archive).arg("-o").arg(&program));
     let run = if ARCH == "x86_64" {
         Command::new(program).output()
