@@ -1,9 +1,9 @@
 -- How many cards sent a value, as the cards are gone through one by one; the vote and the smallest supported count, by what
 -- such a search finds.
-use mathlib.Core.Path.{_≡_, refl, sym, ap, _∙_}
-use mathlib.Core.Bool.{Bool, true, false, not, _&&_}
+use mathlib.Core.Path.{_≡_, refl, sym, _∙_}
+use mathlib.Core.Bool.{Bool, true, false, not}
 use mathlib.Core.Logic.{⊎-elim}
-use Prim.Native.Nat.{ℕ, zero, suc, _+_, _*_, _-_, _≤_, _<_}
+use Prim.Native.Nat.{ℕ, _+_, _*_, _-_, _≤_, _<_}
 use native.Mathlib.Omega.{arith}
 use lib.Dec.{eqb, ltb, leb}
 use borrow.Author.Tests.{eqb-true, eqb-false, lt-ltb, le-ltb, le-leb, lt-leb, eq-eqb, ne-eqb}
@@ -12,7 +12,7 @@ use Rattle.rules.specs.declared.Vote.the-variants.{Count, None}
 use Rattle.rules.specs.Counting.{countBelow, same}
 use Rattle.rules.specs.Groups.{readVote}
 use Rattle.rules.specs.OneBeat.{sentBy, enough, vote, supported}
-use Rattle.rules.proofs.Tests.{decided, never, le-or-lt, lt-or-le}
+use Rattle.rules.proofs.Tests.{decided, le-or-lt, lt-or-le}
 use Rattle.rules.proofs.Counting.{count-yes, count-no, count-same, count-not, count-le, count-some, count-split, count-apart}
 use Rattle.rules.proofs.Counting.{least-at, least-none}
 use Rattle.rules.proofs.Votes.{count-none, same-true, same-eq, read-below, read-above, read-is}

@@ -12,8 +12,7 @@ use lib.Dec.{eqb}
 use lib.ListN.{length, getD}
 use Rattle.rules.specs.Parameters.{noneWord, settleBeats}
 use Rattle.rules.specs.Groups.{wordOf}
-use Rattle.rules.specs.WholeBeat.{badSet}
-use Rattle.rules.specs.Refusals.{given, counterRefusal, beatRefusal}
+use Rattle.rules.specs.Refusals.{beatRefusal}
 use Rattle.rules.specs.Text.{wellFormed, wordsAt, linesOf}
 use Rattle.rules.specs.RunFile.{Header, headerTests, headerDigits, headerOf, headerRefusal, startWords, beatWords, lastBeat, beatOf}
 use Rattle.rules.specs.RunFile.{startLineRefusal, beatLineRefusal, shownWord, outputLine, refusalLine, Stage, atHeader, atStart, atBeat}

@@ -1,6 +1,6 @@
 -- What a group writes: its one word, or its eight and then those of the card's own half.
 use mathlib.Core.Path.{_≡_, refl, sym, ap, _∙_}
-use mathlib.Core.List.{List, [], _∷_, _++_}
+use mathlib.Core.List.{List, _++_}
 use Prim.Native.Nat.{ℕ, zero, suc, _+_, _-_, _≤_, _<_}
 use native.Mathlib.Omega.{arith}
 use lib.ListN.{set}
@@ -11,7 +11,7 @@ use Rattle.rules.specs.OneBeat.{leafNext, levelNext, groupNext}
 use Rattle.rules.proofs.Halves.{half-broken, half-words}
 use Rattle.level.specs.declared.group.Group.{Group}
 use Rattle.level.specs.declared.Level.{Level}
-use Rattle.level.specs.Groups.{Fits, Split, heardBy, halfGroup}
+use Rattle.level.specs.Groups.{Fits, Split, halfGroup}
 use Rattle.level.specs.Levels.{levelAfter, wordsOf}
 use Rattle.level.proofs.Places.{half-fits, half-heard}
 use Rattle.groups.specs.Steps.{WritesGroup, WritesHalf}

@@ -1,11 +1,10 @@
 -- Where a group's words stand: its columns and those of its halves' outputs lie within the table.
-use mathlib.Core.Path.{_≡_, refl, sym, ap, _∙_, fun-ext}
+use mathlib.Core.Path.{_≡_, ap, fun-ext}
 use mathlib.Core.List.{List}
-use Prim.Native.Nat.{ℕ, zero, suc, _+_, _*_, _-_, _/_, _≤_, _<_}
-use native.Mathlib.Nat.{add-zero, add-assoc}
+use Prim.Native.Nat.{ℕ, _+_, _-_, _≤_, _<_}
+use native.Mathlib.Nat.{add-assoc}
 use native.Mathlib.Omega.{arith}
-use Rattle.rules.specs.Parameters.{recordWords}
-use Rattle.rules.specs.Groups.{halfFirst, halfCards, halfBroken, halfModulus, heardInHalf, outputPlace, outputOf}
+use Rattle.rules.specs.Groups.{halfFirst, halfCards, halfBroken, halfModulus, heardInHalf, outputOf}
 use Rattle.rules.specs.OneBeat.{mostFrequent, nextM}
 use Rattle.rules.proofs.Records.{eight-words, output-inside}
 use Rattle.rules.proofs.Halves.{half-few, half-ends, half-broken, half-modulus, half-words}

@@ -1,6 +1,6 @@
 use columns::Column;
 ghost use mathlib.Core.Path.{_≡_};
-ghost use Prim.Native.Nat.{ℕ, _+_, _*_, _<_, _≤_};
+ghost use Prim.Native.Nat.{_+_, _<_, _≤_};
 ghost use Rattle.rules.specs.Groups.{outputPlace};
 ghost use Rattle.level.specs.Groups.{columnOf, halfGroup, HalfAsks};
 

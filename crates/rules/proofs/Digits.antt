@@ -1,6 +1,6 @@
 -- Laws of the number of binary digits of f, and so of a record's size.
 use mathlib.Core.Path.{_≡_, refl, sym, ap}
-use Prim.Native.Nat.{ℕ, zero, suc, _+_, _*_, _-_, _/_, _≤_, _<_}
+use Prim.Native.Nat.{ℕ, zero, suc, _+_, _-_, _/_, _≤_, _<_}
 use native.Mathlib.Omega.{arith}
 use lib.Arith.{half-le}
 use Rattle.rules.specs.Parameters.{digitsIn, binaryDigits}

@@ -8,7 +8,7 @@ use lib.ListN.{getD}
 use Rattle.rules.specs.declared.Vote.{Vote}
 use Rattle.rules.specs.declared.Vote.the-variants.{Count, None}
 use Rattle.rules.specs.Counting.{countBelow, largestBelow, least, orElse, countOr0, same, rows}
-use Rattle.rules.specs.Parameters.{c0, c1, restart, digitsIn, binaryDigits}
+use Rattle.rules.specs.Parameters.{c0, restart, digitsIn, binaryDigits}
 use Rattle.rules.specs.Groups.{readVote, wordOf, bitOf, heardIn}
 use Rattle.rules.specs.OneBeat.{Standing, sentBy, enough, mostSent, mostFrequent, vote, follows, cooldown, span, pointer, step0}
 use Rattle.rules.specs.OneBeat.{step1, step2, supported, obeyed, gained, leafNext, groupNext, padded, nextRecord, shownCount}

@@ -1,6 +1,6 @@
 -- What each call returns, and what it leaves in the caller's buffer. RULES 9.3: "A refused call's value is 0, and the output
 -- buffer keeps its contents."
-use Prim.Native.Nat.{ℕ, zero, suc, _+_, _*_}
+use Prim.Native.Nat.{ℕ, zero, suc}
 use mathlib.Core.Bool.{cond}
 use mathlib.Core.List.{List}
 use lib.Dec.{eqb}

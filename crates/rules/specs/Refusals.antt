@@ -4,7 +4,6 @@ use Prim.Native.Nat.{ℕ, _*_}
 use mathlib.Core.Bool.{Bool, cond, not, _||_}
 use mathlib.Core.List.{List}
 use lib.Dec.{eqb, leb}
-use lib.ListN.{length}
 use Rattle.rules.specs.Parameters.{recordWords, badCards, badBroken, badModulus}
 use Rattle.rules.specs.WholeBeat.{badSet, sentWords}
 use Rattle.rules.specs.Text.{wellFormed, hasLine}

@@ -3,8 +3,7 @@ pub mod pointer; // pointer.rt: which beat of its turn a card follows
 use columns::Column;
 use rules::Vote;
 ghost use mathlib.Core.Path.{_≡_};
-ghost use mathlib.Core.Bool.{Bool};
-ghost use Prim.Native.Nat.{ℕ, _+_, _*_, _/_, _<_, _≤_};
+ghost use Prim.Native.Nat.{_+_, _/_, _<_, _≤_};
 ghost use lib.ListN.{length};
 ghost use Rattle.rules.specs.OneBeat.{obeyed, step0, step1, step2, gained, threeSteps};
 ghost use Rattle.columns.specs.Columns.{Within, votesIn};

@@ -1,6 +1,6 @@
 use rules::Vote;
 ghost use mathlib.Core.Path.{_≡_};
-ghost use Prim.Native.Nat.{ℕ, _+_, _*_, _%_, _<_, _≤_};
+ghost use Prim.Native.Nat.{_*_, _%_, _<_};
 ghost use Rattle.rules.specs.Counting.{countOr0};
 ghost use Rattle.rules.specs.OneBeat.{trusted, pointer, pointed, phase};
 ghost use Rattle.steps.specs.Pointers.{TurnOf};

@@ -2,14 +2,13 @@
 use borrow.Author.Needs.{needs}
 use mathlib.Core.Path.{_≡_, refl, sym, ap, _∙_}
 use mathlib.Core.Logic.{⊎-elim}
-use Prim.Native.Nat.{ℕ, _+_, _-_, _≤_, _<_}
+use Prim.Native.Nat.{ℕ, _+_, _-_, _≤_}
 use native.Mathlib.Omega.{arith}
-use lib.ListN.{length, getD, set, length-set}
+use lib.ListN.{length, length-set}
 use Rattle.rules.specs.declared.Vote.the-variants.{Count, None}
 use Rattle.rules.specs.Groups.{readVote}
-use Rattle.rules.specs.OneBeat.{sentBy}
 use Rattle.rules.proofs.Votes.{read-below, read-above}
-use Rattle.columns.specs.Columns.{votesIn, wordIn}
+use Rattle.columns.specs.Columns.{votesIn}
 use Rattle.columns.proofs.Sent.{sent-yes, sent-le}
 use Rattle.columns.proofs.Tallies.{Tally, tally-start, tally-more, tally-same}
 use Rattle.columns.proofs.Tallies.{Leads, leads-start, leads-same, leads-more, leads-is}

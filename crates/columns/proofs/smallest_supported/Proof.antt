@@ -1,16 +1,15 @@
 -- `columns::smallest_supported` meets its contract: of what the cards gone through sent, nothing below the best so far
 -- is supported.
 use borrow.Author.Needs.{needs}
-use mathlib.Core.Path.{_≡_, refl, sym, ap, _∙_}
+use mathlib.Core.Path.{_≡_, sym, _∙_}
 use mathlib.Core.Logic.{⊎-elim}
 use Prim.Native.Nat.{ℕ, _+_, _-_, _≤_, _<_}
 use native.Mathlib.Omega.{arith}
 use borrow.Author.Count.{below-more}
 use borrow.Author.Tests.{ltb-true, ltb-false}
 use Rattle.rules.specs.declared.Vote.{Vote}
-use Rattle.rules.specs.declared.Vote.the-variants.{Count, None}
+use Rattle.rules.specs.declared.Vote.the-variants.{Count}
 use Rattle.rules.specs.Counting.{countBelow}
-use Rattle.rules.specs.Groups.{readVote}
 use Rattle.rules.specs.OneBeat.{sentBy}
 use Rattle.rules.proofs.Votes.{read-is}
 use Rattle.columns.specs.Columns.{votesIn, wordIn, lies}

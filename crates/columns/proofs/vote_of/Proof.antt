@@ -4,13 +4,13 @@ use mathlib.Core.Path.{_≡_, refl, sym, ap, _∙_}
 use mathlib.Core.Logic.{⊎-elim}
 use Prim.Native.Nat.{ℕ, _+_, _-_, _≤_, _<_}
 use native.Mathlib.Omega.{arith}
-use lib.ListN.{length, getD, set, length-set}
+use lib.ListN.{length, getD, length-set}
 use Rattle.rules.specs.declared.Vote.{Vote}
 use Rattle.rules.specs.declared.Vote.the-variants.{Count, None}
 use Rattle.rules.specs.Groups.{readVote}
 use Rattle.rules.specs.OneBeat.{sentBy}
 use Rattle.rules.proofs.Votes.{read-below, read-above}
-use Rattle.columns.specs.Columns.{votesIn, wordIn}
+use Rattle.columns.specs.Columns.{votesIn}
 use Rattle.columns.proofs.Sent.{sent-le, sent-yes, sent-zero, vote-found, vote-none, still-short, short-still}
 use Rattle.columns.proofs.Tallies.{Tally, tally-start, tally-more, tally-same}
 use Rattle.columns.proofs.vote_of.Statement.{statement}

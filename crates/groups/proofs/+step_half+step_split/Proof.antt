@@ -1,5 +1,4 @@
 -- `groups::step_half` and `groups::step_split` meet their contracts: f falls on each round.
-use borrow.Author.Needs.{needs}
 use borrow.Author.Tests.{lt-ltb, le-ltb}
 use mathlib.Core.Path.{refl, _∙_}
 use native.Mathlib.Omega.{arith}

@@ -2,7 +2,7 @@
 use borrow.Author.Needs.{needs}
 use native.Mathlib.Omega.{arith}
 use borrow.Author.Tests.{ne-eqb}
-use Rattle.level.proofs.Rows.{RowOf, row-is}
+use Rattle.level.proofs.Rows.{row-is}
 use Rattle.level.proofs.read_level.Statement.{statement}
 use Rattle.level.proofs.read_level.Tie as tie
 

@@ -1,6 +1,6 @@
 -- `steps::gain` meets its contract, case by case.
 use borrow.Author.Needs.{needs}
-use Prim.Native.Nat.{_+_, _%_}
+use Prim.Native.Nat.{_+_}
 use native.Mathlib.Nat.{mod-lt}
 use native.Mathlib.Omega.{arith}
 use Rattle.rules.specs.OneBeat.{gained}

@@ -1,8 +1,6 @@
 -- `steps::three_steps` meets its contract.
 use borrow.Author.Needs.{needs}
 use borrow.Author.Tests.{eq-eqb, ne-eqb}
-use mathlib.Core.Path.{_∙_}
-use native.Mathlib.Omega.{arith}
 use Rattle.rules.specs.OneBeat.{threeSteps}
 use Rattle.steps.proofs.three_steps.Statement.{statement}
 use Rattle.steps.proofs.three_steps.Tie as tie

@@ -1,7 +1,7 @@
 -- `level::Level::phase` meets its contract.
 use borrow.Author.Needs.{needs}
 use borrow.Author.Tests.{lt-ltb, le-ltb}
-use mathlib.Core.Path.{_≡_, _∙_}
+use mathlib.Core.Path.{_≡_}
 use mathlib.Core.Logic.{⊎-elim}
 use Rattle.rules.specs.Groups.{halfOf}
 use Rattle.level.proofs.Level.phase.Statement.{statement}
