@@ -5,13 +5,13 @@ use Rattle.rules.specs.Text.{is_digit}
 use Rattle.digits.proofs.is_digit.Statement.{statement}
 use Rattle.digits.proofs.is_digit.Tie as tie
 
-returns : tie.Need-returns
+returns : tie.Need-returns-then-within
 unfolding is_digit
-returns c = rw (sym c.before.within.ensures ∙ c.if1.true)
+returns c = rw (sym c.before.within.ensures ∙ c.if-within.true)
 
-returns-2 : tie.Need-returns-2
+returns-2 : tie.Need-returns
 unfolding is_digit
-returns-2 c = rw (sym c.before.before.within.ensures ∙ c.before.if1.false) c.within2.ensures
+returns-2 c = rw (sym c.before.before.within.ensures ∙ c.before.if-within.false) c.within-2.ensures
 
 pub is_digit_spec : {M : Type 1} → statement M
 is_digit_spec = tie.close (tie.spec (λ c κs. search rules) returns (λ c κs. search rules) returns-2)

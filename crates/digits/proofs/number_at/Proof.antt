@@ -9,38 +9,38 @@ use Rattle.digits.proofs.Hexadecimal.{digit_at, number_more, number_within}
 use Rattle.digits.proofs.number_at.Statement.{statement}
 use Rattle.digits.proofs.number_at.Tie as tie
 
-abbrev invariant-loop : tie.invariant-loop
+abbrev invariant-loop : tie.invariant-loop-i
 invariant-loop text at digits number₀ i₀ number i = (i ≤ digits) × (number ≡ number_at text at i)
 
-abbrev decreases-loop : tie.decreases-loop
+abbrev decreases-loop : tie.decreases-loop-i
 decreases-loop text at digits number₀ i₀ number i = digits - i
 
-loop_holds : tie.Need-loop-init invariant-loop decreases-loop
+loop_holds : tie.Need-loop-i-init invariant-loop decreases-loop
 unfolding number_at
 loop_holds c = (omega arith, refl)
 
 -- the number with one digit more fits
-below : (c : tie.In-loop invariant-loop decreases-loop)
+below : (c : tie.In-loop-i invariant-loop decreases-loop)
     → let l = c.before in
     let a = l.before.before.args in
-    16 * l.loop.number + value_of (get_or a.text.now (a.at + l.loop.i) 0) < 16 ^ 8
+    16 * l.loop-i.number + value_of (get_or a.text.now (a.at + l.loop-i.i) 0) < 16 ^ 8
 below c =
     let s = c.before.before.before in
     let a = s.args in
-    let i = c.before.loop.i in
+    let i = c.before.loop-i.i in
     let most = number_within a.text.now a.at (i + 1) 8 s.requires.0.digits_alone (omega arith) (omega arith) in
     omega (arith, number_more a.text.now a.at i, most)
 
-loop_again : tie.Need-loop-preserved invariant-loop decreases-loop
+loop_again : tie.Need-loop-i-preserved invariant-loop decreases-loop
 loop_again c =
     let l = c.before.before.before in
     let a = l.before.before.args in
-    (omega arith, omega (arith, number_more a.text.now a.at l.loop.i))
+    (omega arith, omega (arith, number_more a.text.now a.at l.loop-i.i))
 
 returns : tie.Need-returns invariant-loop decreases-loop
 returns c =
     let l = c.before in
-    let e : l.loop.i ≡ l.before.before.args.digits = omega arith in
+    let e : l.loop-i.i ≡ l.before.before.args.digits = omega arith in
     cc
 
 pub number_at_spec : {M : Type 1} → statement M

@@ -8,13 +8,13 @@ use Rattle.digits.proofs.Hexadecimal.{digit_cases}
 use Rattle.digits.proofs.value_of.Statement.{statement}
 use Rattle.digits.proofs.value_of.Tie as tie
 
-returns : tie.Need-returns
+returns : tie.Need-returns-then-ch-le57
 unfolding value_of
-returns c = rw (le-leb _ _ c.if1.true)
+returns c = rw (le-leb _ _ c.if-ch-le57.true)
 
-returns-2 : tie.Need-returns-2
+returns-2 : tie.Need-returns-else-ch-le57
 unfolding value_of
-returns-2 c = rw (lt-leb _ _ c.if1.false)
+returns-2 c = rw (lt-leb _ _ c.if-ch-le57.false)
 
 pub value_of_spec : {M : Type 1} → statement M
 value_of_spec =

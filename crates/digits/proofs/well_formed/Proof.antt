@@ -11,37 +11,37 @@ use Rattle.digits.proofs.Hexadecimal.{digits_from}
 use Rattle.digits.proofs.well_formed.Statement.{statement}
 use Rattle.digits.proofs.well_formed.Tie as tie
 
-abbrev invariant-loop : tie.invariant-loop
+abbrev invariant-loop : tie.invariant-loop-i
 invariant-loop text size i₀ i = (i ≤ size) × (all_digits text ≡ all_digits (drop i text))
 
-abbrev decreases-loop : tie.decreases-loop
+abbrev decreases-loop : tie.decreases-loop-i
 decreases-loop text size i₀ i = size - i
 
-returns : tie.Need-returns invariant-loop decreases-loop
+returns : tie.Need-returns-then-text-size invariant-loop decreases-loop
 unfolding well_formed
-returns c = rw (ne_eqb _ _ c.if1.true)
+returns c = rw (ne_eqb _ _ c.if-text-size.true)
 
-returns-2 : tie.Need-returns-2 invariant-loop decreases-loop
+returns-2 : tie.Need-returns-then-not-is_digit invariant-loop decreases-loop
 unfolding well_formed
 returns-2 c =
     let l = c.before.before.before.before in
     let text = l.before.before.before.args.text.now in
-    let none : is_digit (get_or text l.loop.i 0) ≡ false = sym c.before.is_digit.ensures ∙ not-true _ c.if2.true in
-    rw (eq-eqb _ _ l.before.if1.false, l.loop.invariant.1, digits_from text l.loop.i (omega arith), none)
+    let none : is_digit (get_or text l.loop-i.i 0) ≡ false = sym c.before.is_digit.ensures ∙ not-true _ c.if-not-is_digit.true in
+    rw (eq-eqb _ _ l.before.if-text-size.false, l.loop-i.invariant.1, digits_from text l.loop-i.i (omega arith), none)
 
-loop_again : tie.Need-loop-preserved invariant-loop decreases-loop
+loop_again : tie.Need-loop-i-preserved invariant-loop decreases-loop
 loop_again c =
     let l = c.before.before.before.before in
     let text = l.before.before.before.args.text.now in
-    let one : is_digit (get_or text l.loop.i 0) ≡ true = sym c.before.is_digit.ensures ∙ not-false _ c.if2.false in
-    (omega arith, l.loop.invariant.1 ∙ digits_from text l.loop.i (omega arith) ∙ rw one)
+    let one : is_digit (get_or text l.loop-i.i 0) ≡ true = sym c.before.is_digit.ensures ∙ not-false _ c.if-not-is_digit.false in
+    (omega arith, l.loop-i.invariant.1 ∙ digits_from text l.loop-i.i (omega arith) ∙ rw one)
 
-returns-3 : tie.Need-returns-3 invariant-loop decreases-loop
+returns-3 : tie.Need-returns invariant-loop decreases-loop
 unfolding well_formed all_digits
 returns-3 c =
     let l = c.before in
     let text = l.before.before.before.args.text.now in
-    rw (eq-eqb _ _ l.before.if1.false, l.loop.invariant.1, drop_of_length-le text {i = l.loop.i} (omega arith))
+    rw (eq-eqb _ _ l.before.if-text-size.false, l.loop-i.invariant.1, drop_of_length-le text {i = l.loop-i.i} (omega arith))
 
 pub well_formed_spec : {M : Type 1} → statement M
 well_formed_spec =

@@ -7,14 +7,14 @@ use Rattle.rules.proofs.Shapes.{shape_refused, shape_passed}
 use Rattle.params.proofs.counter_refusal.Statement.{statement}
 use Rattle.params.proofs.counter_refusal.Tie as tie
 
-refused : tie.Need-returns
+refused : tie.Need-returns-then-refusal-ne0
 refused c =
     let a = c.before.before.args in
     shape_refused (bad_cards a.n) (bad_broken a.n a.f) (given 3 (bad_modulus a.c) 0) _
-    c.before.shape_refusal.ensures c.if1.true
+    c.before.shape_refusal-refusal.ensures c.if-refusal-ne0.true
 
 -- refusals 1 and 2 are not given
-later : (c : tie.After-modulus-refused)
+later : (c : tie.After-modulus_refused)
     → let a = c.before.before.before.args in
     counter_refusal a.n a.f a.c 0 ≡ given 3 c.modulus_refused.result 0
 later c =
@@ -22,7 +22,7 @@ later c =
     let a = s.before.args in
     rw c.modulus_refused.ensures
     (shape_passed (bad_cards a.n) (bad_broken a.n a.f) (given 3 (bad_modulus a.c) 0) _
-    s.shape_refusal.ensures c.before.if1.false)
+    s.shape_refusal-refusal.ensures c.before.if-refusal-ne0.false)
 
 pub counter_refusal_spec : {M : Type 1} → statement M
 counter_refusal_spec =
@@ -31,5 +31,5 @@ counter_refusal_spec =
     (λ c κs. search rules)
     refused
     (λ c κs. search rules)
-    (λ c. sym (later c.before ∙ rw c.if2.true))
-    (λ c. sym (later c.before ∙ rw c.if2.false)))
+    (λ c. sym (later c.before ∙ rw c.if-modulus_refused.true))
+    (λ c. sym (later c.before ∙ rw c.if-modulus_refused.false)))

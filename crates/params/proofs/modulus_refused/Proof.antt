@@ -4,4 +4,4 @@ use Rattle.params.proofs.modulus_refused.Statement.{statement}
 use Rattle.params.proofs.modulus_refused.Tie as tie
 
 pub modulus_refused_spec : {M : Type 1} → statement M
-modulus_refused_spec = tie.close (tie.spec (λ c. simp (lt-ltb _ _ c.if1.true)) (λ c. simp (le-ltb _ _ c.if1.false)))
+modulus_refused_spec = tie.close (tie.spec (λ c. simp (lt-ltb _ _ c.if-c-lt2.true)) (λ c. simp (le-ltb _ _ c.if-c-lt2.false)))

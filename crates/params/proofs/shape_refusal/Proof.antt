@@ -8,11 +8,11 @@ pub shape_refusal_spec : {M : Type 1} → statement M
 shape_refusal_spec =
     tie.close
     (tie.spec
-    (λ c. simp (eq-eqb _ _ c.if1.true))
-    (λ c. simp (ne_eqb _ _ c.before.if1.false, lt-ltb _ _ c.if2.true))
-    (λ c. simp (ne_eqb _ _ c.before.before.if1.false, le-ltb _ _ c.before.if2.false, lt-ltb _ _ c.if3.true))
+    (λ c. simp (eq-eqb _ _ c.if-n-eq0.true))
+    (λ c. simp (ne_eqb _ _ c.before.if-n-eq0.false, lt-ltb _ _ c.if-n-gt-MOST_CARDS.true))
+    (λ c. simp (ne_eqb _ _ c.before.before.if-n-eq0.false, le-ltb _ _ c.before.if-n-gt-MOST_CARDS.false, lt-ltb _ _ c.if-f-gt-MOST_BROKEN.true))
     (λ c. search rules)
     (λ c. let s = c.before.before in
-    simp (ne_eqb _ _ s.before.if1.false, le-ltb _ _ s.if2.false, le-ltb _ _ c.before.if3.false, le-leb _ _ c.if4.true))
+    simp (ne_eqb _ _ s.before.if-n-eq0.false, le-ltb _ _ s.if-n-gt-MOST_CARDS.false, le-ltb _ _ c.before.if-f-gt-MOST_BROKEN.false, le-leb _ _ c.if-n-f.true))
     (λ c. let s = c.before.before in
-    simp (ne_eqb _ _ s.before.if1.false, le-ltb _ _ s.if2.false, le-ltb _ _ c.before.if3.false, lt-leb _ _ c.if4.false)))
+    simp (ne_eqb _ _ s.before.if-n-eq0.false, le-ltb _ _ s.if-n-gt-MOST_CARDS.false, le-ltb _ _ c.before.if-f-gt-MOST_BROKEN.false, lt-leb _ _ c.if-n-f.false)))

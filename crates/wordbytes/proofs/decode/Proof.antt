@@ -11,31 +11,31 @@ use Rattle.wordbytes.proofs.Filling.{filled, filled_all, word_more}
 use Rattle.wordbytes.proofs.decode.Statement.{statement}
 use Rattle.wordbytes.proofs.decode.Tie as tie
 
-abbrev invariant-loop : tie.invariant-loop
+abbrev invariant-loop : tie.invariant-loop-i
 invariant-loop bytes words₀ size i₀ words i =
     (i ≤ size) × (length words ≡ length words₀) × (words ≡ filled (tabulate i (word_at bytes)) words₀)
 
-abbrev decreases-loop : tie.decreases-loop
+abbrev decreases-loop : tie.decreases-loop-i
 decreases-loop bytes words₀ size i₀ words i = size - i
 
-loop_holds : tie.Need-loop-init invariant-loop decreases-loop
+loop_holds : tie.Need-loop-i-init invariant-loop decreases-loop
 unfolding rows
 loop_holds c = (search rules, refl, refl)
 
-loop_again : tie.Need-loop-preserved invariant-loop decreases-loop
+loop_again : tie.Need-loop-i-preserved invariant-loop decreases-loop
 loop_again c =
     let l = c.before.before.before.before in
     let a = l.before.before.before.args in (
       omega arith,
-      simp length-set l.loop.invariant.1,
-      rw (l.loop.invariant.2, c.joined.ensures) (word_more a.words.now (word_at a.bytes.now) l.loop.i (omega arith)),
+      simp length-set l.loop-i.invariant.1,
+      rw (l.loop-i.invariant.2, c.joined.ensures) (word_more a.words.now (word_at a.bytes.now) l.loop-i.i (omega arith)),
     )
 
 returns : tie.Need-returns invariant-loop decreases-loop
 returns c =
     let a = c.before.before.before.before.args in
-    let e : c.before.loop.i ≡ length a.words.now = omega arith in
-    rw e at c.before.loop.invariant.2
+    let e : c.before.loop-i.i ≡ length a.words.now = omega arith in
+    rw e at c.before.loop-i.invariant.2
     ∙ filled_all (tabulate (length a.words.now) (word_at a.bytes.now)) a.words.now (tabulate_length _ (word_at a.bytes.now))
 
 pub decode_spec : {M : Type 1} → statement M

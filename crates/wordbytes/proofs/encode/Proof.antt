@@ -15,26 +15,26 @@ use Rattle.wordbytes.proofs.encode.Tie as tie
 abbrev pair_of : List ℕ → ℕ → List ℕ
 pair_of words i = get_or words i 0 % 256 ∷ get_or words i 0 / 256 ∷ []
 
-abbrev invariant-loop : tie.invariant-loop
+abbrev invariant-loop : tie.invariant-loop-i
 invariant-loop words bytes₀ size i₀ bytes i =
     (i ≤ size) × (length bytes ≡ length bytes₀) × (bytes ≡ filled (rows i (pair_of words)) bytes₀)
 
-abbrev decreases-loop : tie.decreases-loop
+abbrev decreases-loop : tie.decreases-loop-i
 decreases-loop words bytes₀ size i₀ bytes i = size - i
 
-loop_holds : tie.Need-loop-init invariant-loop decreases-loop
+loop_holds : tie.Need-loop-i-init invariant-loop decreases-loop
 unfolding rows
 loop_holds c = (search rules, refl, refl)
 
-loop_again : tie.Need-loop-preserved invariant-loop decreases-loop
+loop_again : tie.Need-loop-i-preserved invariant-loop decreases-loop
 loop_again c =
     let l = c.before.before.before.before in
     let a = l.before.before.before.args in
     let word : ℕ → ℕ = λ i. get_or a.words.now i 0 in (
       omega arith,
-      simp length-set l.loop.invariant.1,
-      rw (l.loop.invariant.2, c.high_byte.ensures, c.before.low_byte.ensures)
-          (pair_more a.bytes.now (λ (i : ℕ). word i % 256) (λ (i : ℕ). word i / 256) l.loop.i (omega arith)),
+      simp length-set l.loop-i.invariant.1,
+      rw (l.loop-i.invariant.2, c.high_byte.ensures, c.before.low_byte.ensures)
+          (pair_more a.bytes.now (λ (i : ℕ). word i % 256) (λ (i : ℕ). word i / 256) l.loop-i.i (omega arith)),
     )
 
 returns : tie.Need-returns invariant-loop decreases-loop
@@ -42,9 +42,9 @@ unfolding bytes_of
 returns c =
     let a = c.before.before.before.before.args in
     let n = length a.words.now in
-    let e : c.before.loop.i ≡ n = omega arith in
+    let e : c.before.loop-i.i ≡ n = omega arith in
     let q = rows_length n 2 (pair_of a.words.now) (λ i l. refl) in
-    rw e at c.before.loop.invariant.2
+    rw e at c.before.loop-i.invariant.2
     ∙ filled_all (bytes_of a.words.now) a.bytes.now (omega arith)
 
 pub encode_spec : {M : Type 1} → statement M

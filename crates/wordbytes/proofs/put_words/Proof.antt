@@ -11,33 +11,33 @@ use Rattle.wordbytes.proofs.Placing.{pair_of, pair_more, pairs_are}
 use Rattle.wordbytes.proofs.put_words.Statement.{statement}
 use Rattle.wordbytes.proofs.put_words.Tie as tie
 
-abbrev invariant-loop : tie.invariant-loop
+abbrev invariant-loop : tie.invariant-loop-j
 invariant-loop from at bytes₀ place count j₀ bytes j =
     (j ≤ count) × (length bytes ≡ length bytes₀)
     × (bytes ≡ sets bytes₀ (2 * place) (rows j (pair_of (λ (i : ℕ). get_or from (at + i) 0))))
 
-abbrev decreases-loop : tie.decreases-loop
+abbrev decreases-loop : tie.decreases-loop-j
 decreases-loop from at bytes₀ place count j₀ bytes j = count - j
 
-loop_holds : tie.Need-loop-init invariant-loop decreases-loop
+loop_holds : tie.Need-loop-j-init invariant-loop decreases-loop
 unfolding rows
 loop_holds c = (omega arith, refl, refl)
 
-loop_again : tie.Need-loop-preserved invariant-loop decreases-loop
+loop_again : tie.Need-loop-j-preserved invariant-loop decreases-loop
 loop_again c =
     let l = c.before.before.before.before in
     let a = l.before.before.before.args in (
       omega arith,
-      simp length-set l.loop.invariant.1,
-      rw (l.loop.invariant.2, c.high_byte.ensures, c.before.low_byte.ensures)
-          (pair_more (λ (i : ℕ). get_or a.from.now (a.at + i) 0) a.bytes.now a.place l.loop.j),
+      simp length-set l.loop-j.invariant.1,
+      rw (l.loop-j.invariant.2, c.high_byte.ensures, c.before.low_byte.ensures)
+          (pair_more (λ (i : ℕ). get_or a.from.now (a.at + i) 0) a.bytes.now a.place l.loop-j.j),
     )
 
 returns : tie.Need-returns invariant-loop decreases-loop
 returns c =
     let a = c.before.before.before.before.args in
-    let e : c.before.loop.j ≡ a.count = omega arith in
-    rw e at c.before.loop.invariant.2 ∙ rw (pairs_are a.from.now a.at a.count)
+    let e : c.before.loop-j.j ≡ a.count = omega arith in
+    rw e at c.before.loop-j.invariant.2 ∙ rw (pairs_are a.from.now a.at a.count)
 
 pub put_words_spec : {M : Type 1} → statement M
 put_words_spec =

@@ -16,27 +16,27 @@ use Rattle.digits.proofs.words.put_words.Tie as tie
 abbrev text_from : List ℕ → ℕ → List ℕ
 text_from words j = hex_of 4 (get_or words j 0)
 
-abbrev invariant-loop : tie.invariant-loop
+abbrev invariant-loop : tie.invariant-loop-i
 invariant-loop out₀ at words count i₀ out i =
     (i ≤ count) × (length out ≡ length out₀) × (out ≡ sets out₀ at (rows i (text_from words)))
 
-abbrev decreases-loop : tie.decreases-loop
+abbrev decreases-loop : tie.decreases-loop-i
 decreases-loop out₀ at words count i₀ out i = count - i
 
-loop_holds : tie.Need-loop-init invariant-loop decreases-loop
+loop_holds : tie.Need-loop-i-init invariant-loop decreases-loop
 unfolding rows
 loop_holds c = (search rules, refl, refl)
 
-loop_again : tie.Need-loop-preserved invariant-loop decreases-loop
+loop_again : tie.Need-loop-i-preserved invariant-loop decreases-loop
 loop_again c =
     let l = c.before.before.before.before.before.before in
     let a = l.before.before.before.args in
     let g = text_from a.words.now in
-    let i = l.loop.i in (
+    let i = l.loop-i.i in (
       omega arith,
-      c.before.before.put_word.auto.0 ∙ l.loop.invariant.1,
+      c.before.before.put_word.auto.0 ∙ l.loop-i.invariant.1,
       c.before.before.put_word.ensures
-          ∙ rw l.loop.invariant.2 (rows_more a.out.now a.at i 4 (a.at + 4 * i) g (λ j. hex_length 4 _) (omega arith)),
+          ∙ rw l.loop-i.invariant.2 (rows_more a.out-1.now a.at i 4 (a.at + 4 * i) g (λ j. hex_length 4 _) (omega arith)),
     )
 
 returns : tie.Need-returns invariant-loop decreases-loop
@@ -44,8 +44,8 @@ unfolding text_of
 returns c =
     let l = c.before in
     let a = l.before.before.before.args in
-    let e : l.loop.i ≡ length a.words.now = omega arith in
-    rw e at l.loop.invariant.2
+    let e : l.loop-i.i ≡ length a.words.now = omega arith in
+    rw e at l.loop-i.invariant.2
 
 pub put_words_spec : {M : Type 1} → statement M
 put_words_spec =

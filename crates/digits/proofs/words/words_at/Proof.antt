@@ -16,25 +16,25 @@ use Rattle.digits.proofs.words.words_at.Tie as tie
 abbrev word_in : List ℕ → ℕ → ℕ → List ℕ
 word_in text at j = number_at text (at + 4 * j) 4 ∷ []
 
-abbrev invariant-loop : tie.invariant-loop
+abbrev invariant-loop : tie.invariant-loop-i
 invariant-loop text at out₀ count i₀ out i =
     (i ≤ count) × (length out ≡ length out₀) × (out ≡ sets out₀ 0 (rows i (word_in text at)))
 
-abbrev decreases-loop : tie.decreases-loop
+abbrev decreases-loop : tie.decreases-loop-i
 decreases-loop text at out₀ count i₀ out i = count - i
 
-loop_holds : tie.Need-loop-init invariant-loop decreases-loop
+loop_holds : tie.Need-loop-i-init invariant-loop decreases-loop
 unfolding rows
 loop_holds c = (search rules, refl, refl)
 
-loop_again : tie.Need-loop-preserved invariant-loop decreases-loop
+loop_again : tie.Need-loop-i-preserved invariant-loop decreases-loop
 loop_again c =
     let l = c.before.before in
     let a = l.before.before.before.args in
-    let i = l.loop.i in (
+    let i = l.loop-i.i in (
       omega arith,
-      simp length-set l.loop.invariant.1,
-      rw (l.loop.invariant.2, c.word_at.ensures)
+      simp length-set l.loop-i.invariant.1,
+      rw (l.loop-i.invariant.2, c.word_at.ensures)
           (rows_more a.out.now 0 i 1 i (word_in a.text.now a.at) (λ j. refl) (omega arith)),
     )
 
@@ -44,9 +44,9 @@ returns c =
     let l = c.before in
     let a = l.before.before.before.args in
     let count = length a.out.now in
-    let e : l.loop.i ≡ count = omega arith in
+    let e : l.loop-i.i ≡ count = omega arith in
     let words = words_at a.text.now a.at count in
-    rw e at l.loop.invariant.2 ∙ sets_all a.out.now words (sym (words_length a.text.now a.at count))
+    rw e at l.loop-i.invariant.2 ∙ sets_all a.out.now words (sym (words_length a.text.now a.at count))
 
 pub words_at_spec : {M : Type 1} → statement M
 words_at_spec =
