@@ -7,7 +7,7 @@ use feed::Feed;
 use libc::{STDERR_FILENO, STDIN_FILENO, STDOUT_FILENO};
 
 // Where a run stands, and whether all of its output was written.
-#[derive(Drop)]
+#[derive(Clone, Copy)]
 struct Ran {
     feed: Feed,
     whole: bool,

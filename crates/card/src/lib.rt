@@ -76,7 +76,7 @@ pub fn step(n: u32, f: u32, c: u32, card: u32, records: &[u16], out: &mut [u16])
 }
 
 // What the shown count returns: the refusal, and the count, which is 0 if there is one.
-#[derive(Drop)]
+#[derive(Clone, Copy)]
 pub struct Shown {
     pub refusal: u32,
     pub count: Vote,

@@ -7,7 +7,7 @@ ghost use Rattle.columns.specs.Columns.{Within, MostFrequentAsks, VoteAsks, word
 use rules::Vote;
 
 // The word `at` of each of n cards, from the card `first` on, in a table of `cards` records of w words.
-#[derive(Drop)]
+#[derive(Clone, Copy)]
 pub struct Column {
     pub cards: usize,
     pub w: usize,

@@ -14,21 +14,21 @@ use text::lines::line_end;
 const LONGEST: usize = 8005;
 
 // Where a run stands between two pieces: the run, and how many characters are held of the unfinished line; or a line was refused.
-#[derive(Drop)]
+#[derive(Clone, Copy)]
 pub enum Feed {
     Reading(Stage, usize),
     Stopped,
 }
 
 // What feeding a part of a piece returns: how to go on, from which place of the piece on, and how long the text is that it writes.
-#[derive(Drop)]
+#[derive(Clone, Copy)]
 pub struct Fed {
     pub feed: Feed,
     pub next: usize,
     pub written: usize,
 }
 
-#[derive(Drop)]
+#[derive(Clone, Copy)]
 struct Ended {
     feed: Feed,
     written: usize,

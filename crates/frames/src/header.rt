@@ -9,7 +9,7 @@ use digits::{number_at, well_formed};
 const HEADER_DIGITS: usize = 12;
 
 // What line 1 says.
-#[derive(Drop)]
+#[derive(Clone, Copy)]
 pub struct Header {
     pub n: u32,
     pub f: u32,

@@ -5,7 +5,7 @@ ghost use Rattle.level.specs.Groups.{column_of, half_group, HalfAsks};
 use columns::Column;
 
 // A group of n cards in a table of `cards` records of w words: the cards from `first` on, and their words from `base` on.
-#[derive(Drop)]
+#[derive(Clone, Copy)]
 pub struct Group {
     pub cards: usize,
     pub w: usize,

@@ -15,7 +15,7 @@ use rules::Vote;
 use steps::Standing;
 
 // What a card keeps of a split group, m0 m1 M0 M1 w0 w1 a b, as RULES 4.2 reads the words.
-#[derive(Drop)]
+#[derive(Clone, Copy)]
 pub struct Level {
     pub m0: u16,
     pub m1: u16,

@@ -22,7 +22,7 @@ const TABLE: [[u16; 6]; 6] = [
 ];
 
 // A row of the table.
-#[derive(Drop)]
+#[derive(Clone, Copy)]
 pub struct Row {
     pub turn: u16,
     pub c0: u16,
@@ -33,7 +33,7 @@ pub struct Row {
 }
 
 // What is returned for n and f: the refusal, and a row, which is all 0 if there is one.
-#[derive(Drop)]
+#[derive(Clone, Copy)]
 pub struct Parameters {
     pub refusal: u32,
     pub row: Row,
@@ -90,7 +90,7 @@ pub fn record_words(f: u32) -> u32
 }
 
 // What the step of a split group needs of its row: t, c0, c1 and 2·c1.
-#[derive(Drop)]
+#[derive(Clone, Copy)]
 pub struct Pace {
     pub turn: u16,
     pub c0: u16,

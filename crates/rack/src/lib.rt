@@ -12,7 +12,7 @@ pub mod broken; // broken.rt: the broken set
 const MOST_WORDS: usize = 400;
 
 // What a beat is run on, besides the records.
-#[derive(Drop)]
+#[derive(Clone, Copy)]
 struct Rack {
     n: u32,
     f: u32,

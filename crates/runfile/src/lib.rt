@@ -10,7 +10,7 @@ use frames::header::Header;
 use frames::{frame, header, output};
 
 // Where a run stands between two lines: it waits for line 1, for line 2, or for the line after a beat.
-#[derive(Drop)]
+#[derive(Clone, Copy)]
 pub enum Stage {
     AtHeader,
     AtStart(Header),
@@ -18,7 +18,7 @@ pub enum Stage {
 }
 
 // What a line returns: its refusal, 0 if it is accepted, the run after it, and how long its output line is.
-#[derive(Drop)]
+#[derive(Clone, Copy)]
 pub struct Taken {
     pub refusal: u32,
     pub stage: Stage,

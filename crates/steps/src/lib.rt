@@ -9,7 +9,7 @@ use columns::Column;
 use rules::Vote;
 
 // The two words that the three steps change.
-#[derive(Drop)]
+#[derive(Clone, Copy)]
 pub struct Standing {
     pub a: Vote,
     pub b: bool,

@@ -6,7 +6,7 @@ ghost use Rattle.text.specs.Lines.{end_from, Placed};
 const LINE_FEED: u8 = 10;
 
 // Where a line is, and whether there is one: a missing line is an empty part.
-#[derive(Drop)]
+#[derive(Clone, Copy)]
 pub(crate) struct Place {
     pub(crate) found: bool,
     pub(crate) start: usize,

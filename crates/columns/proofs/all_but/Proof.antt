@@ -13,11 +13,11 @@ use Rattle.columns.proofs.Sent.{count_zero, never_enough, enough_of_all}
 use Rattle.columns.proofs.all_but.Statement.{statement}
 use Rattle.columns.proofs.all_but.Tie as tie
 
-abbrev invariant-loop : tie.invariant-loop
+abbrev invariant-loop : tie.invariant-loop-u
 invariant-loop recs col spare low high n left₀ u₀ left u =
     (u ≤ n) × (n ≡ col.n) × (count_below u (λ (v : ℕ). lies low high (word_in recs col v)) + spare ≡ u + left)
 
-abbrev decreases-loop : tie.decreases-loop
+abbrev decreases-loop : tie.decreases-loop-u
 decreases-loop recs col spare low high n left₀ u₀ left u = n - u
 
 -- does a card's word lie there?
@@ -27,32 +27,32 @@ test start v = lies start.args.low start.args.high (word_in start.args.recs.now 
 -- whether the card's word does
 tested : (c : tie.After-lies invariant-loop decreases-loop)
     → let l = c.before.before.before in
-    c.lies.result ≡ test l.before.before l.loop.u
+    c.lies.result ≡ test l.before.before l.loop-u.u
 tested c =
     let a = c.before.before.before.before.before.args in
     c.lies.ensures ∙ ap (lies a.low a.high) c.before.said.ensures
 
-too_many : tie.Need-returns invariant-loop decreases-loop
+too_many : tie.Need-returns-then-left-eq0 invariant-loop decreases-loop
 too_many c =
     let l = c.before.before.before.before.before in
     let start = l.before.before in
-    let z = count_no l.loop.u (test start) (sym (tested c.before.before) ∙ not-true _ c.before.if1.true) in
-    sym (never_enough (test start) start.args.col.n start.args.spare (l.loop.u + 1) (omega arith) (omega (arith, z)))
+    let z = count_no l.loop-u.u (test start) (sym (tested c.before.before) ∙ not-true _ c.before.if-not-lies.true-raw) in
+    sym (never_enough (test start) start.args.col.n start.args.spare (l.loop-u.u + 1) (omega arith) (omega (arith, z)))
 
-loop_again : tie.Need-loop-preserved invariant-loop decreases-loop
+loop_again : tie.Need-loop-u-preserved invariant-loop decreases-loop
 loop_again c =
     let l = c.before.before.before.before in
     let start = l.before.before in
     let e = sym (tested c.before) in
     ⊎_elim
-    (λ w. let z = count_no l.loop.u (test start) (e ∙ not-true _ w.0.taken) in (omega arith, refl, omega (arith, z)))
-    (λ w. let z = count_yes l.loop.u (test start) (e ∙ not-false _ w.0.left) in (omega arith, refl, omega (arith, z)))
-    c.if1.branch
+    (λ w. let z = count_no l.loop-u.u (test start) (e ∙ not-true _ w.0.taken) in (omega arith, refl, omega (arith, z)))
+    (λ w. let z = count_yes l.loop-u.u (test start) (e ∙ not-false _ w.0.left) in (omega arith, refl, omega (arith, z)))
+    c.if-not-lies.branch
 
-few : tie.Need-returns-2 invariant-loop decreases-loop
+few : tie.Need-returns invariant-loop decreases-loop
 few c =
     let start = c.before.before.before in
-    sym (enough_of_all (test start) start.args.col.n start.args.spare c.before.loop.u (omega arith) (omega arith))
+    sym (enough_of_all (test start) start.args.col.n start.args.spare c.before.loop-u.u (omega arith) (omega arith))
 
 pub all_but_spec : {M : Type 1} → statement M
 all_but_spec =

@@ -5,21 +5,21 @@ use Rattle.columns.specs.Columns.{leader}
 use Rattle.columns.proofs.lead.Statement.{statement}
 use Rattle.columns.proofs.lead.Tie as tie
 
-more_often : tie.Need-returns
+more_often : tie.Need-returns-then-most-t
 unfolding leader
-more_often c = simp (lt-ltb _ _ c.if1.true)
+more_often c = simp (lt-ltb _ _ c.if-most-t.true)
 
-less_often : tie.Need-returns-2
+less_often : tie.Need-returns-then-t-most
 unfolding leader
-less_often c = simp (le-ltb _ _ c.before.if1.false, lt-ltb _ _ c.if2.true)
+less_often c = simp (le-ltb _ _ c.before.if-most-t.false, lt-ltb _ _ c.if-t-most.true)
 
-smaller : tie.Need-returns-3
+smaller : tie.Need-returns-then-x-best
 unfolding leader
-smaller c = simp (le-ltb _ _ c.before.before.if1.false, le-ltb _ _ c.before.if2.false) (omega arith)
+smaller c = simp (le-ltb _ _ c.before.before.if-most-t.false, le-ltb _ _ c.before.if-t-most.false) (omega arith)
 
-not_smaller : tie.Need-returns-4
+not_smaller : tie.Need-returns-else-x-best
 unfolding leader
-not_smaller c = simp (le-ltb _ _ c.before.before.if1.false, le-ltb _ _ c.before.if2.false) (omega arith)
+not_smaller c = simp (le-ltb _ _ c.before.before.if-most-t.false, le-ltb _ _ c.before.if-t-most.false) (omega arith)
 
 pub lead_spec : {M : Type 1} → statement M
 lead_spec = tie.close (tie.spec more_often less_often smaller not_smaller)

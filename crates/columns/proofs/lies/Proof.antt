@@ -7,5 +7,5 @@ pub lies_spec : {M : Type 1} → statement M
 lies_spec =
     tie.close
     (tie.spec
-    (λ c. rw (lt-leb _ _ c.if1.true))
-    (λ c. rw (le-leb _ _ c.if1.false)))
+    (λ c. rw (lt-leb _ _ c.if-word-low.true))
+    (λ c. rw (le-leb _ _ c.if-word-low.false)))

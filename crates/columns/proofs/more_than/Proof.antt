@@ -12,11 +12,11 @@ use Rattle.columns.proofs.Sent.{count_zero, more_already, never_more}
 use Rattle.columns.proofs.more_than.Statement.{statement}
 use Rattle.columns.proofs.more_than.Tie as tie
 
-abbrev invariant-loop : tie.invariant-loop
+abbrev invariant-loop : tie.invariant-loop-u
 invariant-loop recs col few low high n left₀ u₀ left u =
     (u ≤ n) × (n ≡ col.n) × (count_below u (λ (v : ℕ). lies low high (word_in recs col v)) + left ≡ few)
 
-abbrev decreases-loop : tie.decreases-loop
+abbrev decreases-loop : tie.decreases-loop-u
 decreases-loop recs col few low high n left₀ u₀ left u = n - u
 
 -- does a card's word lie there?
@@ -26,32 +26,32 @@ test start v = lies start.args.low start.args.high (word_in start.args.recs.now 
 -- whether the card's word does
 tested : (c : tie.After-lies invariant-loop decreases-loop)
     → let l = c.before.before.before in
-    c.lies.result ≡ test l.before.before l.loop.u
+    c.lies.result ≡ test l.before.before l.loop-u.u
 tested c =
     let a = c.before.before.before.before.before.args in
     c.lies.ensures ∙ ap (lies a.low a.high) c.before.said.ensures
 
-more : tie.Need-returns invariant-loop decreases-loop
+more : tie.Need-returns-then-left-eq0 invariant-loop decreases-loop
 more c =
     let l = c.before.before.before.before.before in
     let start = l.before.before in
-    let z = count_yes l.loop.u (test start) (sym (tested c.before.before) ∙ c.before.if1.true) in
-    sym (more_already (test start) start.args.col.n start.args.few (l.loop.u + 1) (omega arith) (omega (arith, z)))
+    let z = count_yes l.loop-u.u (test start) (sym (tested c.before.before) ∙ c.before.if-lies.true) in
+    sym (more_already (test start) start.args.col.n start.args.few (l.loop-u.u + 1) (omega arith) (omega (arith, z)))
 
-loop_again : tie.Need-loop-preserved invariant-loop decreases-loop
+loop_again : tie.Need-loop-u-preserved invariant-loop decreases-loop
 loop_again c =
     let l = c.before.before.before.before in
     let start = l.before.before in
     let e = sym (tested c.before) in
     ⊎_elim
-    (λ w. let z = count_yes l.loop.u (test start) (e ∙ w.0.taken) in (omega arith, refl, omega (arith, z)))
-    (λ w. let z = count_no l.loop.u (test start) (e ∙ w.0.left) in (omega arith, refl, omega (arith, z)))
-    c.if1.branch
+    (λ w. let z = count_yes l.loop-u.u (test start) (e ∙ w.0.taken) in (omega arith, refl, omega (arith, z)))
+    (λ w. let z = count_no l.loop-u.u (test start) (e ∙ w.0.left) in (omega arith, refl, omega (arith, z)))
+    c.if-lies.branch
 
-no_more : tie.Need-returns-2 invariant-loop decreases-loop
+no_more : tie.Need-returns invariant-loop decreases-loop
 no_more c =
     let start = c.before.before.before in
-    sym (never_more (test start) start.args.col.n start.args.few c.before.loop.u (omega arith) (omega arith))
+    sym (never_more (test start) start.args.col.n start.args.few c.before.loop-u.u (omega arith) (omega arith))
 
 pub more_than_spec : {M : Type 1} → statement M
 more_than_spec =

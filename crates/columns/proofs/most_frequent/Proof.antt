@@ -15,42 +15,42 @@ use Rattle.columns.proofs.Tallies.{Leads, leads_start, leads_same, leads_more, l
 use Rattle.columns.proofs.most_frequent.Statement.{statement}
 use Rattle.columns.proofs.most_frequent.Tie as tie
 
-abbrev invariant-loop : tie.invariant-loop
+abbrev invariant-loop : tie.invariant-loop-u
 invariant-loop recs col m n tally₀ best₀ u₀ tally best u =
     (u ≤ col.n) × (length tally ≡ 128) × (Tally (votes_in m recs col) m tally u) × (Leads (votes_in m recs col) m u best)
 
-abbrev decreases-loop : tie.decreases-loop
+abbrev decreases-loop : tie.decreases-loop-u
 decreases-loop recs col m n tally₀ best₀ u₀ tally best u = col.n - u
 
-loop_again : tie.Need-loop-preserved invariant-loop decreases-loop
+loop_again : tie.Need-loop-u-preserved invariant-loop decreases-loop
 loop_again c =
     let l = c.before.before.before in
     let a = l.before.before.args in
     let v = votes_in a.m a.recs.now a.col in
-    let u = l.loop.u in
-    let x = c.before.said.result in
-    let e = c.before.said.ensures in
+    let u = l.loop-u.u in
+    let x = c.before.said-x.result in
+    let e = c.before.said-x.ensures in
     ⊎_elim
     (λ w. let z : v u ≡ Count x = ap (read_vote a.m) (sym e) ∙ read_below a.m x w.0.taken in
-    let more = tally_more v a.m l.loop.tally u x (omega arith) z w.0.taken l.loop.invariant.2 in
-    let leads = leads_more v a.m u l.loop.best x z w.0.taken l.loop.invariant.3 _ _
-    (ap (λ (k : ℕ). k + 1) (l.loop.invariant.2.counts x w.0.taken) ∙ sym (sent_yes v u (Count x) z))
-    (more.counts l.loop.best l.loop.invariant.3.below) in
-    rw (w.2, w.3, w.1.ensures) (omega arith, simp length-set l.loop.invariant.1, more, leads))
+    let more = tally_more v a.m l.loop-u.tally u x (omega arith) z w.0.taken l.loop-u.invariant.2 in
+    let leads = leads_more v a.m u l.loop-u.best x z w.0.taken l.loop-u.invariant.3 _ _
+    (ap (λ (k : ℕ). k + 1) (l.loop-u.invariant.2.counts x w.0.taken) ∙ sym (sent_yes v u (Count x) z))
+    (more.counts l.loop-u.best l.loop-u.invariant.3.below) in
+    rw (w.2, w.3, w.1.ensures) (omega arith, simp length-set l.loop-u.invariant.1, more, leads))
     (λ w. let z : v u ≡ None = ap (read_vote a.m) (sym e) ∙ read_above a.m x w.0.left in
     rw (w.1, w.2) (
       omega arith,
-      l.loop.invariant.1,
-      tally_same v a.m l.loop.tally u z l.loop.invariant.2,
-      leads_same v a.m u l.loop.best z l.loop.invariant.3,
+      l.loop-u.invariant.1,
+      tally_same v a.m l.loop-u.tally u z l.loop-u.invariant.2,
+      leads_same v a.m u l.loop-u.best z l.loop-u.invariant.3,
     ))
-    c.if1.branch
+    c.if-x-m.branch
 
 returns : tie.Need-returns invariant-loop decreases-loop
 returns c =
     let a = c.before.before.before.args in
-    let e : c.before.loop.u ≡ a.col.n = omega arith in
-    sym (leads_is (votes_in a.m a.recs.now a.col) a.m a.col.n c.before.loop.best (rw e at c.before.loop.invariant.3))
+    let e : c.before.loop-u.u ≡ a.col.n = omega arith in
+    sym (leads_is (votes_in a.m a.recs.now a.col) a.m a.col.n c.before.loop-u.best (rw e at c.before.loop-u.invariant.3))
 
 pub most_frequent_spec : {M : Type 1} → statement M
 most_frequent_spec =
@@ -67,13 +67,13 @@ most_frequent_spec =
     (λ c. let l = c.before.before.before in
     let a = l.before.before.args in
     let v = votes_in a.m a.recs.now a.col in
-    let x = c.before.said.result in
-    omega (arith, l.loop.invariant.2.counts x (omega arith), sent_le v l.loop.u (Count x)))
+    let x = c.before.said-x.result in
+    omega (arith, l.loop-u.invariant.2.counts x (omega arith), sent_le v l.loop-u.u (Count x)))
     (λ c. omega arith)
-    (λ c. let l = c.before.before.before in omega (arith, l.loop.invariant.3.below))
+    (λ c. let l = c.before.before.before in omega (arith, l.loop-u.invariant.3.below))
     (λ c κs. search rules)
     (λ c. omega arith)
     (λ c. omega arith)
     loop_again
-    (λ c. omega (arith, c.before.loop.invariant.3.below))
+    (λ c. omega (arith, c.before.loop-u.invariant.3.below))
     returns)

@@ -6,4 +6,4 @@ use Rattle.columns.proofs.read_vote.Tie as tie
 
 pub read_vote_spec : {M : Type 1} → statement M
 read_vote_spec =
-    tie.close (tie.spec (λ c. sym (read_below _ _ c.if1.true)) (λ c. sym (read_above _ _ c.if1.false)))
+    tie.close (tie.spec (λ c. sym (read_below _ _ c.if-word-m.true)) (λ c. sym (read_above _ _ c.if-word-m.false)))

@@ -17,23 +17,23 @@ use Rattle.columns.proofs.Sent.{sent_x, supported_found, supported_none}
 use Rattle.columns.proofs.smallest_supported.Statement.{statement}
 use Rattle.columns.proofs.smallest_supported.Tie as tie
 
-abbrev invariant-loop : tie.invariant-loop
+abbrev invariant-loop : tie.invariant-loop-u
 invariant-loop recs col f m n best₀ u₀ best u =
     (u ≤ col.n) × (best ≤ m) × (best < m → f < sent_by col.n (votes_in m recs col) (Count best))
     × ((v : ℕ) → v < u → word_in recs col v < best → sent_by col.n (votes_in m recs col) (Count (word_in recs col v)) ≤ f)
 
-abbrev decreases-loop : tie.decreases-loop
+abbrev decreases-loop : tie.decreases-loop-u
 decreases-loop recs col f m n best₀ u₀ best u = col.n - u
 
-loop_again : tie.Need-loop-preserved invariant-loop decreases-loop
+loop_again : tie.Need-loop-u-preserved invariant-loop decreases-loop
 loop_again c =
     let l = c.before.before.before in
     let a = l.before.before.args in
     let votes = votes_in a.c a.recs.now a.col in
     let word = word_in a.recs.now a.col in
-    let u = l.loop.u in
-    let x = c.before.said.result in
-    let e : x ≡ word u = c.before.said.ensures in
+    let u = l.loop-u.u in
+    let x = c.before.said-x.result in
+    let e : x ≡ word u = c.before.said-x.ensures in
     let times = count_below a.col.n (λ (v : ℕ). lies x (x + 1) (word v)) in
     let sent : x < a.c → times ≡ sent_by a.col.n votes (Count x) = sent_x word a.c a.col.n x in
     ⊎_elim
@@ -42,48 +42,48 @@ loop_again c =
       omega arith,
       λ k. omega (arith, sent k, ltb-true a.f times (sym w.1.ensures ∙ w.2.taken)),
       below_more (λ (v : ℕ). word v < x → sent_by a.col.n votes (Count (word v)) ≤ a.f) u
-          (λ v lv k. l.loop.invariant.3 v lv (omega arith)) (λ k. absurd (omega arith)),
+          (λ v lv k. l.loop-u.invariant.3 v lv (omega arith)) (λ k. absurd (omega arith)),
     ))
     (⊎_elim
     (λ w. rw w.3 (
       omega arith,
-      l.loop.invariant.1,
-      l.loop.invariant.2,
-      below_more (λ (v : ℕ). word v < l.loop.best → sent_by a.col.n votes (Count (word v)) ≤ a.f) u
-          l.loop.invariant.3 (λ k. rw (← e) (omega (arith, sent (omega arith), ltb-false a.f times (sym w.1.ensures ∙ w.2.left)))),
+      l.loop-u.invariant.1,
+      l.loop-u.invariant.2,
+      below_more (λ (v : ℕ). word v < l.loop-u.best → sent_by a.col.n votes (Count (word v)) ≤ a.f) u
+          l.loop-u.invariant.3 (λ k. rw (← e) (omega (arith, sent (omega arith), ltb-false a.f times (sym w.1.ensures ∙ w.2.left)))),
     ))
     (λ w. rw w.1 (
       omega arith,
-      l.loop.invariant.1,
-      l.loop.invariant.2,
-      below_more (λ (v : ℕ). word v < l.loop.best → sent_by a.col.n votes (Count (word v)) ≤ a.f) u
-          l.loop.invariant.3 (λ k. absurd (omega (arith, w.0.left))),
+      l.loop-u.invariant.1,
+      l.loop-u.invariant.2,
+      below_more (λ (v : ℕ). word v < l.loop-u.best → sent_by a.col.n votes (Count (word v)) ≤ a.f) u
+          l.loop-u.invariant.3 (λ k. absurd (omega (arith, w.0.left))),
     )))
-    c.if1.branch
+    c.if-x-best.branch
 
 -- the votes of the column
 abbrev votes : tie.Start invariant-loop decreases-loop → ℕ → Vote
 votes start = votes_in start.args.c start.args.recs.now start.args.col
 
 -- what was sent and lies below the best is not supported
-passed : (c : tie.After-loop invariant-loop decreases-loop)
+passed : (c : tie.After-loop-u invariant-loop decreases-loop)
     → let start = c.before.before.before in
     let n = start.args.col.n in
-    (v x : ℕ) → v < n → votes start v ≡ Count x → x < c.before.loop.best → sent_by n (votes start) (Count x) ≤ start.args.f
+    (v x : ℕ) → v < n → votes start v ≡ Count x → x < c.before.loop-u.best → sent_by n (votes start) (Count x) ≤ start.args.f
 passed c v x lv e l =
     let a = c.before.before.before.args in
     let s : word_in a.recs.now a.col v ≡ x = (read_is a.c (word_in a.recs.now a.col v) x e).0 in
-    rw (← s) (c.before.loop.invariant.3 v (omega arith) (omega arith))
+    rw (← s) (c.before.loop-u.invariant.3 v (omega arith) (omega arith))
 
-found : tie.Need-returns invariant-loop decreases-loop
+found : tie.Need-returns-then-best-c invariant-loop decreases-loop
 found c =
     let l = c.before.before in
     let start = l.before.before in
     sym
-    (supported_found (votes start) start.args.col.n start.args.f start.args.c l.loop.best c.if3.true
-    (l.loop.invariant.2 c.if3.true) (passed c.before))
+    (supported_found (votes start) start.args.col.n start.args.f start.args.c l.loop-u.best c.if-best-c.true
+    (l.loop-u.invariant.2 c.if-best-c.true) (passed c.before))
 
-none : tie.Need-returns-2 invariant-loop decreases-loop
+none : tie.Need-returns-else-best-c invariant-loop decreases-loop
 none c =
     let start = c.before.before.before.before in
     sym

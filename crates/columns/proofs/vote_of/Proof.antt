@@ -16,12 +16,12 @@ use Rattle.columns.proofs.Tallies.{Tally, tally_start, tally_more, tally_same}
 use Rattle.columns.proofs.vote_of.Statement.{statement}
 use Rattle.columns.proofs.vote_of.Tie as tie
 
-abbrev invariant-loop : tie.invariant-loop
+abbrev invariant-loop : tie.invariant-loop-u
 invariant-loop recs col f m n enough tally₀ u₀ tally u =
     (u ≤ col.n) × (length tally ≡ 128) × (Tally (votes_in m recs col) m tally u)
     × ((j : ℕ) → j < m → sent_by u (votes_in m recs col) (Count j) + f < col.n)
 
-abbrev decreases-loop : tie.decreases-loop
+abbrev decreases-loop : tie.decreases-loop-u
 decreases-loop recs col f m n enough tally₀ u₀ tally u = col.n - u
 
 -- the votes of the column
@@ -29,62 +29,62 @@ abbrev votes : tie.Start invariant-loop decreases-loop → ℕ → Vote
 votes start = votes_in start.args.m start.args.recs.now start.args.col
 
 -- where x is sent once more: its tally is small, and is how often it was sent
-more : (c : tie.Then1 invariant-loop decreases-loop)
+more : (c : tie.Then-x-m invariant-loop decreases-loop)
     → let l = c.before.before.before in
     let v = votes l.before.before in
-    let x = c.before.said.result in
-    let again = get_or l.loop.tally x 0 + 1 in
-    (again ≤ 256) × (v l.loop.u ≡ Count x) × (sent_by (l.loop.u + 1) v (Count x) ≡ again)
+    let x = c.before.said-x.result in
+    let again = get_or l.loop-u.tally x 0 + 1 in
+    (again ≤ 256) × (v l.loop-u.u ≡ Count x) × (sent_by (l.loop-u.u + 1) v (Count x) ≡ again)
 more c =
     let l = c.before.before.before in
     let v = votes l.before.before in
     let m = l.before.before.args.m in
-    let u = l.loop.u in
-    let x = c.before.said.result in
-    let z : v u ≡ Count x = ap (read_vote m) (sym c.before.said.ensures) ∙ read_below m x c.if1.true in
-    let t = l.loop.invariant.2.counts x c.if1.true in
+    let u = l.loop-u.u in
+    let x = c.before.said-x.result in
+    let z : v u ≡ Count x = ap (read_vote m) (sym c.before.said-x.ensures) ∙ read_below m x c.if-x-m.true in
+    let t = l.loop-u.invariant.2.counts x c.if-x-m.true in
     (omega (arith, sent_le v u (Count x)), z, sent_yes v u (Count x) z ∙ ap (λ (k : ℕ). k + 1) (sym t))
 
-found : tie.Need-returns invariant-loop decreases-loop
+found : tie.Need-returns-then-enough-t invariant-loop decreases-loop
 found c =
     let l = c.before.before.before.before in
     let start = l.before.before in
-    let x = c.before.before.said.result in
+    let x = c.before.before.said-x.result in
     let enough = (more c.before).2 in
     sym
-    (vote_found (votes start) start.args.col.n start.args.f start.args.m (l.loop.u + 1) x
+    (vote_found (votes start) start.args.col.n start.args.f start.args.m (l.loop-u.u + 1) x
     (omega arith) (omega arith) (omega arith) (omega (arith, enough)))
 
-loop_again : tie.Need-loop-preserved invariant-loop decreases-loop
+loop_again : tie.Need-loop-u-preserved invariant-loop decreases-loop
 loop_again c =
     let l = c.before.before.before in
     let a = l.before.before.args in
     let v = votes l.before.before in
-    let u = l.loop.u in
-    let x = c.before.said.result in
+    let u = l.loop-u.u in
+    let x = c.before.said-x.result in
     ⊎_elim
     (λ w. let r = more (record { before = c.before; if1 = w.0 }) in
     rw w.2 (
       omega arith,
-      simp length-set l.loop.invariant.1,
-      tally_more v a.m l.loop.tally u x (omega arith) r.1 w.0.taken l.loop.invariant.2,
-      still_short v a.col.n a.f a.m u x r.1 (omega (arith, r.2)) l.loop.invariant.3,
+      simp length-set l.loop-u.invariant.1,
+      tally_more v a.m l.loop-u.tally u x (omega arith) r.1 w.0.taken l.loop-u.invariant.2,
+      still_short v a.col.n a.f a.m u x r.1 (omega (arith, r.2)) l.loop-u.invariant.3,
     ))
-    (λ w. let z : v u ≡ None = ap (read_vote a.m) (sym c.before.said.ensures) ∙ read_above a.m x w.0.left in
+    (λ w. let z : v u ≡ None = ap (read_vote a.m) (sym c.before.said-x.ensures) ∙ read_above a.m x w.0.left in
     rw w.1 (
       omega arith,
-      l.loop.invariant.1,
-      tally_same v a.m l.loop.tally u z l.loop.invariant.2,
-      short_still v a.col.n a.f a.m u z l.loop.invariant.3,
+      l.loop-u.invariant.1,
+      tally_same v a.m l.loop-u.tally u z l.loop-u.invariant.2,
+      short_still v a.col.n a.f a.m u z l.loop-u.invariant.3,
     ))
-    c.if1.branch
+    c.if-x-m.branch
 
-returns : tie.Need-returns-2 invariant-loop decreases-loop
+returns : tie.Need-returns invariant-loop decreases-loop
 returns c =
     let start = c.before.before.before in
     let n = start.args.col.n in
-    let e : c.before.loop.u ≡ n = omega arith in
-    sym (vote_none (votes start) n start.args.f start.args.m (rw e at c.before.loop.invariant.3))
+    let e : c.before.loop-u.u ≡ n = omega arith in
+    sym (vote_none (votes start) n start.args.f start.args.m (rw e at c.before.loop-u.invariant.3))
 
 pub vote_of_spec : {M : Type 1} → statement M
 vote_of_spec =
@@ -99,8 +99,8 @@ vote_of_spec =
     (λ c. search rules)
     (λ c. omega arith)
     (λ c. let l = c.before.before.before in
-    let x = c.before.said.result in
-    omega (arith, l.loop.invariant.2.counts x c.if1.true, sent_le (votes l.before.before) l.loop.u (Count x)))
+    let x = c.before.said-x.result in
+    omega (arith, l.loop-u.invariant.2.counts x c.if-x-m.true, sent_le (votes l.before.before) l.loop-u.u (Count x)))
     (λ c. omega arith)
     (λ c. omega (arith, (more c).0))
     (λ c. search rules)

@@ -26,14 +26,14 @@ unfolding well_formed
 returns-2 c =
     let l = c.before.before.before.before in
     let text = l.before.before.before.args.text.now in
-    let none : is_digit (get_or text l.loop-i.i 0) ≡ false = sym c.before.is_digit.ensures ∙ not-true _ c.if-not-is_digit.true in
+    let none : is_digit (get_or text l.loop-i.i 0) ≡ false = sym c.before.is_digit.ensures ∙ not-true _ c.if-not-is_digit.true-raw in
     rw (eq-eqb _ _ l.before.if-text-size.false, l.loop-i.invariant.1, digits_from text l.loop-i.i (omega arith), none)
 
 loop_again : tie.Need-loop-i-preserved invariant-loop decreases-loop
 loop_again c =
     let l = c.before.before.before.before in
     let text = l.before.before.before.args.text.now in
-    let one : is_digit (get_or text l.loop-i.i 0) ≡ true = sym c.before.is_digit.ensures ∙ not-false _ c.if-not-is_digit.false in
+    let one : is_digit (get_or text l.loop-i.i 0) ≡ true = sym c.before.is_digit.ensures ∙ not-false _ c.if-not-is_digit.false-raw in
     (omega arith, l.loop-i.invariant.1 ∙ digits_from text l.loop-i.i (omega arith) ∙ rw one)
 
 returns-3 : tie.Need-returns invariant-loop decreases-loop

@@ -11,5 +11,5 @@ turn_ahead_spec =
     (tie.spec
     (λ c. search rules)
     (λ c. search rules)
-    (λ c. simp (le-leb _ _ c.if1.true) (omega arith))
-    (λ c. simp (lt-leb _ _ c.if1.false) (omega arith)))
+    (λ c. simp (le-leb _ _ c.if-y-x.true) (omega arith))
+    (λ c. simp (lt-leb _ _ c.if-y-x.false) (omega arith)))

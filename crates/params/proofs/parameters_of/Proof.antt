@@ -17,7 +17,7 @@ row_of_requires c κs =
     let s = accepted a.n a.f (sym c.before.shape_refusal-refusal.ensures ∙ c.if-refusal-ne0.false) in
     s.broken
 
-returns-2 : tie.Need-returns
+returns-2 : tie.Need-returns-then-refusal-ne0
 unfolding params_answer
 returns-2 c =
     rw (← c.before.before.shape_refusal-refusal.ensures, eq-eqb _ _ c.before.if-refusal-ne0.false, c.before.if-refusal-ne0.false, c.row_of-found.ensures)

@@ -34,9 +34,9 @@ loop_again c =
     let g = text_from a.words.now in
     let i = l.loop-i.i in (
       omega arith,
-      c.before.before.put_word.auto.0 ∙ l.loop-i.invariant.1,
+      c.before.before.put_word.auto.out ∙ l.loop-i.invariant.1,
       c.before.before.put_word.ensures
-          ∙ rw l.loop-i.invariant.2 (rows_more a.out-1.now a.at i 4 (a.at + 4 * i) g (λ j. hex_length 4 _) (omega arith)),
+          ∙ rw l.loop-i.invariant.2 (rows_more a.out.now a.at i 4 (a.at + 4 * i) g (λ j. hex_length 4 _) (omega arith)),
     )
 
 returns : tie.Need-returns invariant-loop decreases-loop
