@@ -29,14 +29,14 @@ tested : (c : tie.After-lies invariant-loop decreases-loop)
     → let l = c.before.before.before in
     c.lies.result ≡ test l.before.before l.loop-u.u
 tested c =
-    let a = c.before.before.before.before.before.args in
-    c.lies.ensures ∙ ap (lies a.low a.high) c.before.said.ensures
+    let a = c.args in
+    c.lies.ensures ∙ ap (lies a.low a.high) c.said.ensures
 
 too_many : tie.Need-returns-then-left-eq0 invariant-loop decreases-loop
 too_many c =
     let l = c.before.before.before.before.before in
     let start = l.before.before in
-    let z = count_no l.loop-u.u (test start) (sym (tested c.before.before) ∙ not-true _ c.before.if-not-lies.true-raw) in
+    let z = count_no l.loop-u.u (test start) (sym (tested c.before.before) ∙ not-true _ c.if-not-lies.true-raw) in
     sym (never_enough (test start) start.args.col.n start.args.spare (l.loop-u.u + 1) (omega arith) (omega (arith, z)))
 
 loop_again : tie.Need-loop-u-preserved invariant-loop decreases-loop
@@ -45,14 +45,14 @@ loop_again c =
     let start = l.before.before in
     let e = sym (tested c.before) in
     ⊎_elim
-    (λ w. let z = count_no l.loop-u.u (test start) (e ∙ not-true _ w.0.taken) in (omega arith, refl, omega (arith, z)))
-    (λ w. let z = count_yes l.loop-u.u (test start) (e ∙ not-false _ w.0.left) in (omega arith, refl, omega (arith, z)))
-    c.if-not-lies.branch
+    (λ w. let z = count_no l.loop-u.u (test start) (e ∙ not-true _ w.if-not-lies.true) in (omega arith, refl, omega (arith, z)))
+    (λ w. let z = count_yes l.loop-u.u (test start) (e ∙ not-false _ w.if-not-lies.false) in (omega arith, refl, omega (arith, z)))
+    c.if-not-lies.branch-raw
 
 few : tie.Need-returns invariant-loop decreases-loop
 few c =
     let start = c.before.before.before in
-    sym (enough_of_all (test start) start.args.col.n start.args.spare c.before.loop-u.u (omega arith) (omega arith))
+    sym (enough_of_all (test start) start.args.col.n start.args.spare c.loop-u.u (omega arith) (omega arith))
 
 pub all_but_spec : {M : Type 1} → statement M
 all_but_spec =

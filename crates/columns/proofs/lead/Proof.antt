@@ -11,15 +11,15 @@ more_often c = simp (lt-ltb _ _ c.if-most-t.true)
 
 less_often : tie.Need-returns-then-t-most
 unfolding leader
-less_often c = simp (le-ltb _ _ c.before.if-most-t.false, lt-ltb _ _ c.if-t-most.true)
+less_often c = simp (le-ltb _ _ c.if-most-t.false, lt-ltb _ _ c.if-t-most.true)
 
 smaller : tie.Need-returns-then-x-best
 unfolding leader
-smaller c = simp (le-ltb _ _ c.before.before.if-most-t.false, le-ltb _ _ c.before.if-t-most.false) (omega arith)
+smaller c = simp (le-ltb _ _ c.if-most-t.false, le-ltb _ _ c.if-t-most.false) (omega arith)
 
 not_smaller : tie.Need-returns-else-x-best
 unfolding leader
-not_smaller c = simp (le-ltb _ _ c.before.before.if-most-t.false, le-ltb _ _ c.before.if-t-most.false) (omega arith)
+not_smaller c = simp (le-ltb _ _ c.if-most-t.false, le-ltb _ _ c.if-t-most.false) (omega arith)
 
 pub lead_spec : {M : Type 1} → statement M
 lead_spec = tie.close (tie.spec more_often less_often smaller not_smaller)

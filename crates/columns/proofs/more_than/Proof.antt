@@ -28,14 +28,14 @@ tested : (c : tie.After-lies invariant-loop decreases-loop)
     → let l = c.before.before.before in
     c.lies.result ≡ test l.before.before l.loop-u.u
 tested c =
-    let a = c.before.before.before.before.before.args in
-    c.lies.ensures ∙ ap (lies a.low a.high) c.before.said.ensures
+    let a = c.args in
+    c.lies.ensures ∙ ap (lies a.low a.high) c.said.ensures
 
 more : tie.Need-returns-then-left-eq0 invariant-loop decreases-loop
 more c =
     let l = c.before.before.before.before.before in
     let start = l.before.before in
-    let z = count_yes l.loop-u.u (test start) (sym (tested c.before.before) ∙ c.before.if-lies.true) in
+    let z = count_yes l.loop-u.u (test start) (sym (tested c.before.before) ∙ c.if-lies.true) in
     sym (more_already (test start) start.args.col.n start.args.few (l.loop-u.u + 1) (omega arith) (omega (arith, z)))
 
 loop_again : tie.Need-loop-u-preserved invariant-loop decreases-loop
@@ -44,14 +44,14 @@ loop_again c =
     let start = l.before.before in
     let e = sym (tested c.before) in
     ⊎_elim
-    (λ w. let z = count_yes l.loop-u.u (test start) (e ∙ w.0.taken) in (omega arith, refl, omega (arith, z)))
-    (λ w. let z = count_no l.loop-u.u (test start) (e ∙ w.0.left) in (omega arith, refl, omega (arith, z)))
-    c.if-lies.branch
+    (λ w. let z = count_yes l.loop-u.u (test start) (e ∙ w.if-lies.true) in (omega arith, refl, omega (arith, z)))
+    (λ w. let z = count_no l.loop-u.u (test start) (e ∙ w.if-lies.false) in (omega arith, refl, omega (arith, z)))
+    c.if-lies.branch-raw
 
 no_more : tie.Need-returns invariant-loop decreases-loop
 no_more c =
     let start = c.before.before.before in
-    sym (never_more (test start) start.args.col.n start.args.few c.before.loop-u.u (omega arith) (omega arith))
+    sym (never_more (test start) start.args.col.n start.args.few c.loop-u.u (omega arith) (omega arith))
 
 pub more_than_spec : {M : Type 1} → statement M
 more_than_spec =

@@ -27,39 +27,38 @@ decreases-loop recs col f m n best₀ u₀ best u = col.n - u
 
 loop_again : tie.Need-loop-u-preserved invariant-loop decreases-loop
 loop_again c =
-    let l = c.before.before.before in
-    let a = l.before.before.args in
+    let a = c.args in
     let votes = votes_in a.c a.recs.now a.col in
     let word = word_in a.recs.now a.col in
-    let u = l.loop-u.u in
-    let x = c.before.said-x.result in
-    let e : x ≡ word u = c.before.said-x.ensures in
+    let u = c.loop-u.u in
+    let x = c.said-x.result in
+    let e : x ≡ word u = c.said-x.ensures in
     let times = count_below a.col.n (λ (v : ℕ). lies x (x + 1) (word v)) in
     let sent : x < a.c → times ≡ sent_by a.col.n votes (Count x) = sent_x word a.c a.col.n x in
     ⊎_elim
-    (λ w. rw w.3 (
+    (λ w. rw w.best-is (
       omega arith,
       omega arith,
-      λ k. omega (arith, sent k, ltb-true a.f times (sym w.1.ensures ∙ w.2.taken)),
+      λ k. omega (arith, sent k, ltb-true a.f times (sym w.more_than.ensures ∙ w.if-more_than.true)),
       below_more (λ (v : ℕ). word v < x → sent_by a.col.n votes (Count (word v)) ≤ a.f) u
-          (λ v lv k. l.loop-u.invariant.3 v lv (omega arith)) (λ k. absurd (omega arith)),
+          (λ v lv k. c.loop-u.invariant.3 v lv (omega arith)) (λ k. absurd (omega arith)),
     ))
     (⊎_elim
     (λ w. rw w.3 (
       omega arith,
-      l.loop-u.invariant.1,
-      l.loop-u.invariant.2,
-      below_more (λ (v : ℕ). word v < l.loop-u.best → sent_by a.col.n votes (Count (word v)) ≤ a.f) u
-          l.loop-u.invariant.3 (λ k. rw (← e) (omega (arith, sent (omega arith), ltb-false a.f times (sym w.1.ensures ∙ w.2.left)))),
+      c.loop-u.invariant.1,
+      c.loop-u.invariant.2,
+      below_more (λ (v : ℕ). word v < c.loop-u.best → sent_by a.col.n votes (Count (word v)) ≤ a.f) u
+          c.loop-u.invariant.3 (λ k. rw (← e) (omega (arith, sent (omega arith), ltb-false a.f times (sym w.best-is.ensures ∙ w.2.left)))),
     ))
     (λ w. rw w.1 (
       omega arith,
-      l.loop-u.invariant.1,
-      l.loop-u.invariant.2,
-      below_more (λ (v : ℕ). word v < l.loop-u.best → sent_by a.col.n votes (Count (word v)) ≤ a.f) u
-          l.loop-u.invariant.3 (λ k. absurd (omega (arith, w.0.left))),
+      c.loop-u.invariant.1,
+      c.loop-u.invariant.2,
+      below_more (λ (v : ℕ). word v < c.loop-u.best → sent_by a.col.n votes (Count (word v)) ≤ a.f) u
+          c.loop-u.invariant.3 (λ k. absurd (omega (arith, w.0.left))),
     )))
-    c.if-x-best.branch
+    c.if-x-best.branch-raw
 
 -- the votes of the column
 abbrev votes : tie.Start invariant-loop decreases-loop → ℕ → Vote
@@ -69,11 +68,11 @@ votes start = votes_in start.args.c start.args.recs.now start.args.col
 passed : (c : tie.After-loop-u invariant-loop decreases-loop)
     → let start = c.before.before.before in
     let n = start.args.col.n in
-    (v x : ℕ) → v < n → votes start v ≡ Count x → x < c.before.loop-u.best → sent_by n (votes start) (Count x) ≤ start.args.f
+    (v x : ℕ) → v < n → votes start v ≡ Count x → x < c.loop-u.best → sent_by n (votes start) (Count x) ≤ start.args.f
 passed c v x lv e l =
-    let a = c.before.before.before.args in
+    let a = c.args in
     let s : word_in a.recs.now a.col v ≡ x = (read_is a.c (word_in a.recs.now a.col v) x e).0 in
-    rw (← s) (c.before.loop-u.invariant.3 v (omega arith) (omega arith))
+    rw (← s) (c.loop-u.invariant.3 v (omega arith) (omega arith))
 
 found : tie.Need-returns-then-best-c invariant-loop decreases-loop
 found c =

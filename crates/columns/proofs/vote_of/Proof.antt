@@ -32,16 +32,16 @@ votes start = votes_in start.args.m start.args.recs.now start.args.col
 more : (c : tie.Then-x-m invariant-loop decreases-loop)
     → let l = c.before.before.before in
     let v = votes l.before.before in
-    let x = c.before.said-x.result in
+    let x = c.said-x.result in
     let again = get_or l.loop-u.tally x 0 + 1 in
     (again ≤ 256) × (v l.loop-u.u ≡ Count x) × (sent_by (l.loop-u.u + 1) v (Count x) ≡ again)
 more c =
     let l = c.before.before.before in
     let v = votes l.before.before in
-    let m = l.before.before.args.m in
+    let m = l.args.m in
     let u = l.loop-u.u in
-    let x = c.before.said-x.result in
-    let z : v u ≡ Count x = ap (read_vote m) (sym c.before.said-x.ensures) ∙ read_below m x c.if-x-m.true in
+    let x = c.said-x.result in
+    let z : v u ≡ Count x = ap (read_vote m) (sym c.said-x.ensures) ∙ read_below m x c.if-x-m.true in
     let t = l.loop-u.invariant.2.counts x c.if-x-m.true in
     (omega (arith, sent_le v u (Count x)), z, sent_yes v u (Count x) z ∙ ap (λ (k : ℕ). k + 1) (sym t))
 
@@ -49,7 +49,7 @@ found : tie.Need-returns-then-enough-t invariant-loop decreases-loop
 found c =
     let l = c.before.before.before.before in
     let start = l.before.before in
-    let x = c.before.before.said-x.result in
+    let x = c.said-x.result in
     let enough = (more c.before).2 in
     sym
     (vote_found (votes start) start.args.col.n start.args.f start.args.m (l.loop-u.u + 1) x
@@ -58,33 +58,33 @@ found c =
 loop_again : tie.Need-loop-u-preserved invariant-loop decreases-loop
 loop_again c =
     let l = c.before.before.before in
-    let a = l.before.before.args in
+    let a = l.args in
     let v = votes l.before.before in
     let u = l.loop-u.u in
-    let x = c.before.said-x.result in
+    let x = c.said-x.result in
     ⊎_elim
-    (λ w. let r = more (record { before = c.before; if1 = w.0 }) in
-    rw w.2 (
+    (λ w. let r = more (record { before = c.before; if1 = w.if-x-m }) in
+    rw w.tally-is (
       omega arith,
       simp length-set l.loop-u.invariant.1,
-      tally_more v a.m l.loop-u.tally u x (omega arith) r.1 w.0.taken l.loop-u.invariant.2,
+      tally_more v a.m l.loop-u.tally u x (omega arith) r.1 w.if-x-m.true l.loop-u.invariant.2,
       still_short v a.col.n a.f a.m u x r.1 (omega (arith, r.2)) l.loop-u.invariant.3,
     ))
-    (λ w. let z : v u ≡ None = ap (read_vote a.m) (sym c.before.said-x.ensures) ∙ read_above a.m x w.0.left in
-    rw w.1 (
+    (λ w. let z : v u ≡ None = ap (read_vote a.m) (sym c.said-x.ensures) ∙ read_above a.m x w.if-x-m.false in
+    rw w.tally-is (
       omega arith,
       l.loop-u.invariant.1,
       tally_same v a.m l.loop-u.tally u z l.loop-u.invariant.2,
       short_still v a.col.n a.f a.m u z l.loop-u.invariant.3,
     ))
-    c.if-x-m.branch
+    c.if-x-m.branch-raw
 
 returns : tie.Need-returns invariant-loop decreases-loop
 returns c =
     let start = c.before.before.before in
     let n = start.args.col.n in
-    let e : c.before.loop-u.u ≡ n = omega arith in
-    sym (vote_none (votes start) n start.args.f start.args.m (rw e at c.before.loop-u.invariant.3))
+    let e : c.loop-u.u ≡ n = omega arith in
+    sym (vote_none (votes start) n start.args.f start.args.m (rw e at c.loop-u.invariant.3))
 
 pub vote_of_spec : {M : Type 1} → statement M
 vote_of_spec =
@@ -94,12 +94,12 @@ vote_of_spec =
     decreases-loop
     (λ c. omega arith)
     (λ c. let v = votes c.before in
-    (omega arith, refl, tally_start v c.before.args.m 128 (omega arith), λ j l. omega (arith, sent_zero v (Count j))))
+    (omega arith, refl, tally_start v c.args.m 128 (omega arith), λ j l. omega (arith, sent_zero v (Count j))))
     (λ c κs. search rules)
     (λ c. search rules)
     (λ c. omega arith)
     (λ c. let l = c.before.before.before in
-    let x = c.before.said-x.result in
+    let x = c.said-x.result in
     omega (arith, l.loop-u.invariant.2.counts x c.if-x-m.true, sent_le (votes l.before.before) l.loop-u.u (Count x)))
     (λ c. omega arith)
     (λ c. omega (arith, (more c).0))

@@ -21,26 +21,22 @@ loop_holds c = (omega arith, refl)
 
 -- the number with one digit more fits
 below : (c : tie.In-loop-i invariant-loop decreases-loop)
-    → let l = c.before in
-    let a = l.before.before.args in
-    16 * l.loop-i.number + value_of (get_or a.text.now (a.at + l.loop-i.i) 0) < 16 ^ 8
+    → let a = c.args in
+    16 * c.loop-i.number + value_of (get_or a.text.now (a.at + c.loop-i.i) 0) < 16 ^ 8
 below c =
-    let s = c.before.before.before in
-    let a = s.args in
-    let i = c.before.loop-i.i in
-    let most = number_within a.text.now a.at (i + 1) 8 s.requires.0.digits_alone (omega arith) (omega arith) in
+    let a = c.args in
+    let i = c.loop-i.i in
+    let most = number_within a.text.now a.at (i + 1) 8 c.requires.0.digits_alone (omega arith) (omega arith) in
     omega (arith, number_more a.text.now a.at i, most)
 
 loop_again : tie.Need-loop-i-preserved invariant-loop decreases-loop
 loop_again c =
-    let l = c.before.before.before in
-    let a = l.before.before.args in
-    (omega arith, omega (arith, number_more a.text.now a.at l.loop-i.i))
+    let a = c.args in
+    (omega arith, omega (arith, number_more a.text.now a.at c.loop-i.i))
 
 returns : tie.Need-returns invariant-loop decreases-loop
 returns c =
-    let l = c.before in
-    let e : l.loop-i.i ≡ l.before.before.args.digits = omega arith in
+    let e : c.loop-i.i ≡ c.args.digits = omega arith in
     cc
 
 pub number_at_spec : {M : Type 1} → statement M
@@ -53,7 +49,7 @@ number_at_spec =
     (λ c. omega (arith, below c))
     (λ c. search rules)
     (λ c. search rules)
-    (λ c κs. let s = c.before.before.before.before in digit_at _ s.requires.0.digits_alone _ (omega arith))
+    (λ c κs. digit_at _ c.requires.0.digits_alone _ (omega arith))
     (λ c. omega (arith, below c.before.before))
     (λ c. search rules)
     (λ c. search rules)

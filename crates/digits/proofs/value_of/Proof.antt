@@ -20,9 +20,9 @@ pub value_of_spec : {M : Type 1} → statement M
 value_of_spec =
     tie.close
     (tie.spec
-    (λ c. ⊎_elim (λ p. omega arith) (λ p. omega arith) (digit_cases c.before.args.ch c.before.requires))
+    (λ c. ⊎_elim (λ p. omega arith) (λ p. omega arith) (digit_cases c.args.ch c.requires))
     (λ c. search rules)
-    (λ c. ⊎_elim (λ p. omega arith) (λ p. omega arith) (digit_cases c.before.args.ch c.before.requires))
+    (λ c. ⊎_elim (λ p. omega arith) (λ p. omega arith) (digit_cases c.args.ch c.requires))
     (λ c. search rules)
     returns
     returns-2)

@@ -24,24 +24,21 @@ returns c = rw (ne_eqb _ _ c.if-text-size.true)
 returns-2 : tie.Need-returns-then-not-is_digit invariant-loop decreases-loop
 unfolding well_formed
 returns-2 c =
-    let l = c.before.before.before.before in
-    let text = l.before.before.before.args.text.now in
-    let none : is_digit (get_or text l.loop-i.i 0) ≡ false = sym c.before.is_digit.ensures ∙ not-true _ c.if-not-is_digit.true-raw in
-    rw (eq-eqb _ _ l.before.if-text-size.false, l.loop-i.invariant.1, digits_from text l.loop-i.i (omega arith), none)
+    let text = c.args.text.now in
+    let none : is_digit (get_or text c.loop-i.i 0) ≡ false = sym c.is_digit.ensures ∙ not-true _ c.if-not-is_digit.true-raw in
+    rw (eq-eqb _ _ c.if-text-size.false, c.loop-i.invariant.1, digits_from text c.loop-i.i (omega arith), none)
 
 loop_again : tie.Need-loop-i-preserved invariant-loop decreases-loop
 loop_again c =
-    let l = c.before.before.before.before in
-    let text = l.before.before.before.args.text.now in
-    let one : is_digit (get_or text l.loop-i.i 0) ≡ true = sym c.before.is_digit.ensures ∙ not-false _ c.if-not-is_digit.false-raw in
-    (omega arith, l.loop-i.invariant.1 ∙ digits_from text l.loop-i.i (omega arith) ∙ rw one)
+    let text = c.args.text.now in
+    let one : is_digit (get_or text c.loop-i.i 0) ≡ true = sym c.is_digit.ensures ∙ not-false _ c.if-not-is_digit.false-raw in
+    (omega arith, c.loop-i.invariant.1 ∙ digits_from text c.loop-i.i (omega arith) ∙ rw one)
 
 returns-3 : tie.Need-returns invariant-loop decreases-loop
 unfolding well_formed all_digits
 returns-3 c =
-    let l = c.before in
-    let text = l.before.before.before.args.text.now in
-    rw (eq-eqb _ _ l.before.if-text-size.false, l.loop-i.invariant.1, drop_of_length-le text {i = l.loop-i.i} (omega arith))
+    let text = c.args.text.now in
+    rw (eq-eqb _ _ c.if-text-size.false, c.loop-i.invariant.1, drop_of_length-le text {i = c.loop-i.i} (omega arith))
 
 pub well_formed_spec : {M : Type 1} → statement M
 well_formed_spec =

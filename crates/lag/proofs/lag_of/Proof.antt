@@ -14,12 +14,12 @@ use Rattle.lag.proofs.lag_of.Statement.{statement}
 use Rattle.lag.proofs.lag_of.Tie as tie
 
 -- what is known once nothing is refused
-good : (c : tie.Else-lag_refusal-ne0) → let a = c.before.before.args in Inputs a.c a.x a.y
-good c = let a = c.before.before.args in accepted a.c a.x a.y (sym c.before.lag_refusal.ensures ∙ c.if-lag_refusal-ne0.false)
+good : (c : tie.Else-lag_refusal-ne0) → let a = c.args in Inputs a.c a.x a.y
+good c = let a = c.args in accepted a.c a.x a.y (sym c.lag_refusal.ensures ∙ c.if-lag_refusal-ne0.false)
 
 returns : tie.Need-returns-then-lag_refusal-ne0
 unfolding lag_answer
-returns c = rw (← c.before.lag_refusal.ensures, ne_eqb _ _ c.if-lag_refusal-ne0.true)
+returns c = rw (← c.lag_refusal.ensures, ne_eqb _ _ c.if-lag_refusal-ne0.true)
 
 turn_ahead_requires : tie.Need-turn_ahead-d-requires
 turn_ahead_requires c κs = let g = good c in omega arith
@@ -30,27 +30,27 @@ mul_if2 c = omega (arith, (good c.before).most)
 minus_result : tie.Need-overflow_sub-result-else-d-c
 minus_result c =
     let e = c.before.before in
-    minus_fits (e.before.before.args.c - c.before.turn_ahead-d.result) (omega (arith, (good e).most))
+    minus_fits (e.args.c - c.turn_ahead-d.result) (omega (arith, (good e).most))
 
 forward : tie.Need-returns-then-d-c
 unfolding lag_answer
 forward c =
     let e = c.before.before in
-    let a = e.before.before.args in
-    let d = c.before.turn_ahead-d.result in
-    rw (← e.before.lag_refusal.ensures, eq-eqb _ _ e.if-lag_refusal-ne0.false)
+    let a = e.args in
+    let d = c.turn_ahead-d.result in
+    rw (← e.lag_refusal.ensures, eq-eqb _ _ e.if-lag_refusal-ne0.false)
     (to_z_pos w32 (omega (arith, (good e).most))
-    ∙ sym (lag_on a.c a.x a.y d (sym c.before.turn_ahead-d.ensures.1) (omega arith)))
+    ∙ sym (lag_on a.c a.x a.y d (sym c.turn_ahead-d.ensures.1) (omega arith)))
 
 back : tie.Need-returns-else-d-c
 unfolding lag_answer
 back c =
     let e = c.before.before in
-    let a = e.before.before.args in
-    let d = c.before.turn_ahead-d.result in
-    rw (← e.before.lag_refusal.ensures, eq-eqb _ _ e.if-lag_refusal-ne0.false)
+    let a = e.args in
+    let d = c.turn_ahead-d.result in
+    rw (← e.lag_refusal.ensures, eq-eqb _ _ e.if-lag_refusal-ne0.false)
     (minus_is (a.c - d) (omega (arith, (good e).most))
-    ∙ sym (lag_back a.c a.x a.y d (a.c - d) (sym c.before.turn_ahead-d.ensures.1) (omega arith) (omega arith)))
+    ∙ sym (lag_back a.c a.x a.y d (a.c - d) (sym c.turn_ahead-d.ensures.1) (omega arith) (omega arith)))
 
 pub lag_of_spec : {M : Type 1} → statement M
 lag_of_spec =

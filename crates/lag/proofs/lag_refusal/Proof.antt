@@ -10,9 +10,9 @@ lag_refusal_spec =
     tie.close
     (tie.spec
     (λ c κs. search rules)
-    (λ c. simp (sym c.before.modulus_refused.ensures ∙ c.if-modulus_refused.true))
-    (λ c. simp (sym c.before.before.modulus_refused.ensures ∙ c.before.if-modulus_refused.false, le-leb _ _ c.if-c-x.true))
+    (λ c. simp (sym c.modulus_refused.ensures ∙ c.if-modulus_refused.true))
+    (λ c. simp (sym c.modulus_refused.ensures ∙ c.if-modulus_refused.false, le-leb _ _ c.if-c-x.true))
     (λ c. let m = c.before.before in
-    simp (sym m.before.modulus_refused.ensures ∙ m.if-modulus_refused.false, lt-leb _ _ c.before.if-c-x.false, le-leb _ _ c.if-c-y.true))
+    simp (sym m.modulus_refused.ensures ∙ m.if-modulus_refused.false, lt-leb _ _ c.if-c-x.false, le-leb _ _ c.if-c-y.true))
     (λ c. let m = c.before.before in
-    simp (sym m.before.modulus_refused.ensures ∙ m.if-modulus_refused.false, lt-leb _ _ c.before.if-c-x.false, lt-leb _ _ c.if-c-y.false)))
+    simp (sym m.modulus_refused.ensures ∙ m.if-modulus_refused.false, lt-leb _ _ c.if-c-x.false, lt-leb _ _ c.if-c-y.false)))

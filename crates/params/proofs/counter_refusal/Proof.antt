@@ -9,20 +9,19 @@ use Rattle.params.proofs.counter_refusal.Tie as tie
 
 refused : tie.Need-returns-then-refusal-ne0
 refused c =
-    let a = c.before.before.args in
+    let a = c.args in
     shape_refused (bad_cards a.n) (bad_broken a.n a.f) (given 3 (bad_modulus a.c) 0) _
-    c.before.shape_refusal-refusal.ensures c.if-refusal-ne0.true
+    c.shape_refusal-refusal.ensures c.if-refusal-ne0.true
 
 -- refusals 1 and 2 are not given
 later : (c : tie.After-modulus_refused)
-    → let a = c.before.before.before.args in
+    → let a = c.args in
     counter_refusal a.n a.f a.c 0 ≡ given 3 c.modulus_refused.result 0
 later c =
-    let s = c.before.before in
-    let a = s.before.args in
+    let a = c.args in
     rw c.modulus_refused.ensures
     (shape_passed (bad_cards a.n) (bad_broken a.n a.f) (given 3 (bad_modulus a.c) 0) _
-    s.shape_refusal-refusal.ensures c.before.if-refusal-ne0.false)
+    c.shape_refusal-refusal.ensures c.if-refusal-ne0.false)
 
 pub counter_refusal_spec : {M : Type 1} → statement M
 counter_refusal_spec =

@@ -22,7 +22,7 @@ row_with l =
 
 returns : tie.Need-returns
 unfolding rule row_of digits_in binary_digits beats_in settle_beats
-returns c = ap row_with (at 6 rule [] c.before.args.f (omega arith))
+returns c = ap row_with (at 6 rule [] c.args.f (omega arith))
 
 pub row_of_spec : {M : Type 1} → statement M
 row_of_spec =

@@ -23,15 +23,14 @@ loop_holds c = (omega arith, refl, refl)
 
 loop_again : tie.Need-loop-j-preserved invariant-loop decreases-loop
 loop_again c =
-    let l = c.before.before in
-    let a = l.before.args in (
+    let a = c.args in (
       omega arith,
-      simp length-set l.loop-j.invariant.1,
-      rw l.loop-j.invariant.2 (copied_more a.from.now a.to.now a.at a.place l.loop-j.j),
+      simp length-set c.loop-j.invariant.1,
+      rw c.loop-j.invariant.2 (copied_more a.from.now a.to.now a.at a.place c.loop-j.j),
     )
 
 returns : tie.Need-returns invariant-loop decreases-loop
-returns c = let e : c.before.loop-j.j ≡ c.before.before.args.count = omega arith in rw e at c.before.loop-j.invariant.2
+returns c = let e : c.loop-j.j ≡ c.args.count = omega arith in rw e at c.loop-j.invariant.2
 
 pub copy_words_spec : {M : Type 1} → statement M
 copy_words_spec =

@@ -24,18 +24,17 @@ loop_holds c = (search rules, refl, refl)
 
 loop_again : tie.Need-loop-i-preserved invariant-loop decreases-loop
 loop_again c =
-    let l = c.before.before.before.before in
-    let a = l.before.before.before.args in (
+    let a = c.args in (
       omega arith,
-      simp length-set l.loop-i.invariant.1,
-      rw (l.loop-i.invariant.2, c.joined.ensures) (word_more a.words.now (word_at a.bytes.now) l.loop-i.i (omega arith)),
+      simp length-set c.loop-i.invariant.1,
+      rw (c.loop-i.invariant.2, c.joined.ensures) (word_more a.words.now (word_at a.bytes.now) c.loop-i.i (omega arith)),
     )
 
 returns : tie.Need-returns invariant-loop decreases-loop
 returns c =
-    let a = c.before.before.before.before.args in
-    let e : c.before.loop-i.i ≡ length a.words.now = omega arith in
-    rw e at c.before.loop-i.invariant.2
+    let a = c.args in
+    let e : c.loop-i.i ≡ length a.words.now = omega arith in
+    rw e at c.loop-i.invariant.2
     ∙ filled_all (tabulate (length a.words.now) (word_at a.bytes.now)) a.words.now (tabulate_length _ (word_at a.bytes.now))
 
 pub decode_spec : {M : Type 1} → statement M

@@ -28,23 +28,22 @@ loop_holds c = (search rules, refl, refl)
 
 loop_again : tie.Need-loop-i-preserved invariant-loop decreases-loop
 loop_again c =
-    let l = c.before.before.before.before in
-    let a = l.before.before.before.args in
+    let a = c.args in
     let word : ℕ → ℕ = λ i. get_or a.words.now i 0 in (
       omega arith,
-      simp length-set l.loop-i.invariant.1,
-      rw (l.loop-i.invariant.2, c.high_byte.ensures, c.before.low_byte.ensures)
-          (pair_more a.bytes.now (λ (i : ℕ). word i % 256) (λ (i : ℕ). word i / 256) l.loop-i.i (omega arith)),
+      simp length-set c.loop-i.invariant.1,
+      rw (c.loop-i.invariant.2, c.high_byte.ensures, c.low_byte.ensures)
+          (pair_more a.bytes.now (λ (i : ℕ). word i % 256) (λ (i : ℕ). word i / 256) c.loop-i.i (omega arith)),
     )
 
 returns : tie.Need-returns invariant-loop decreases-loop
 unfolding bytes_of
 returns c =
-    let a = c.before.before.before.before.args in
+    let a = c.args in
     let n = length a.words.now in
-    let e : c.before.loop-i.i ≡ n = omega arith in
+    let e : c.loop-i.i ≡ n = omega arith in
     let q = rows_length n 2 (pair_of a.words.now) (λ i l. refl) in
-    rw e at c.before.loop-i.invariant.2
+    rw e at c.loop-i.invariant.2
     ∙ filled_all (bytes_of a.words.now) a.bytes.now (omega arith)
 
 pub encode_spec : {M : Type 1} → statement M

@@ -25,19 +25,18 @@ loop_holds c = (omega arith, refl, refl)
 
 loop_again : tie.Need-loop-j-preserved invariant-loop decreases-loop
 loop_again c =
-    let l = c.before.before.before.before in
-    let a = l.before.before.before.args in (
+    let a = c.args in (
       omega arith,
-      simp length-set l.loop-j.invariant.1,
-      rw (l.loop-j.invariant.2, c.high_byte.ensures, c.before.low_byte.ensures)
-          (pair_more (λ (i : ℕ). get_or a.from.now (a.at + i) 0) a.bytes.now a.place l.loop-j.j),
+      simp length-set c.loop-j.invariant.1,
+      rw (c.loop-j.invariant.2, c.high_byte.ensures, c.low_byte.ensures)
+          (pair_more (λ (i : ℕ). get_or a.from.now (a.at + i) 0) a.bytes.now a.place c.loop-j.j),
     )
 
 returns : tie.Need-returns invariant-loop decreases-loop
 returns c =
-    let a = c.before.before.before.before.args in
-    let e : c.before.loop-j.j ≡ a.count = omega arith in
-    rw e at c.before.loop-j.invariant.2 ∙ rw (pairs_are a.from.now a.at a.count)
+    let a = c.args in
+    let e : c.loop-j.j ≡ a.count = omega arith in
+    rw e at c.loop-j.invariant.2 ∙ rw (pairs_are a.from.now a.at a.count)
 
 pub put_words_spec : {M : Type 1} → statement M
 put_words_spec =

@@ -29,23 +29,21 @@ loop_holds c = (search rules, refl, refl)
 
 loop_again : tie.Need-loop-i-preserved invariant-loop decreases-loop
 loop_again c =
-    let l = c.before.before.before.before.before.before in
-    let a = l.before.before.before.args in
+    let a = c.args in
     let g = text_from a.words.now in
-    let i = l.loop-i.i in (
+    let i = c.loop-i.i in (
       omega arith,
-      c.before.before.put_word.auto.out ∙ l.loop-i.invariant.1,
-      c.before.before.put_word.ensures
-          ∙ rw l.loop-i.invariant.2 (rows_more a.out.now a.at i 4 (a.at + 4 * i) g (λ j. hex_length 4 _) (omega arith)),
+      c.put_word.auto.out ∙ c.loop-i.invariant.1,
+      c.put_word.ensures
+          ∙ rw c.loop-i.invariant.2 (rows_more a.out.now a.at i 4 (a.at + 4 * i) g (λ j. hex_length 4 _) (omega arith)),
     )
 
 returns : tie.Need-returns invariant-loop decreases-loop
 unfolding text_of
 returns c =
-    let l = c.before in
-    let a = l.before.before.before.args in
-    let e : l.loop-i.i ≡ length a.words.now = omega arith in
-    rw e at l.loop-i.invariant.2
+    let a = c.args in
+    let e : c.loop-i.i ≡ length a.words.now = omega arith in
+    rw e at c.loop-i.invariant.2
 
 pub put_words_spec : {M : Type 1} → statement M
 put_words_spec =

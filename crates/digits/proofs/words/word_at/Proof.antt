@@ -11,6 +11,6 @@ word_at_spec =
     (tie.spec
     (λ c κs. search rules)
     (λ c.
-    let a = c.before.before.args in
-    omega (arith, number_below a.text.now a.at 4 c.before.before.requires.digits_alone (omega arith)))
+    let a = c.args in
+    omega (arith, number_below a.text.now a.at 4 c.requires.digits_alone (omega arith)))
     (λ c. search rules))

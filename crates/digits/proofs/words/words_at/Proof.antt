@@ -29,24 +29,22 @@ loop_holds c = (search rules, refl, refl)
 
 loop_again : tie.Need-loop-i-preserved invariant-loop decreases-loop
 loop_again c =
-    let l = c.before.before in
-    let a = l.before.before.before.args in
-    let i = l.loop-i.i in (
+    let a = c.args in
+    let i = c.loop-i.i in (
       omega arith,
-      simp length-set l.loop-i.invariant.1,
-      rw (l.loop-i.invariant.2, c.word_at.ensures)
+      simp length-set c.loop-i.invariant.1,
+      rw (c.loop-i.invariant.2, c.word_at.ensures)
           (rows_more a.out.now 0 i 1 i (word_in a.text.now a.at) (λ j. refl) (omega arith)),
     )
 
 returns : tie.Need-returns invariant-loop decreases-loop
 unfolding words_at
 returns c =
-    let l = c.before in
-    let a = l.before.before.before.args in
+    let a = c.args in
     let count = length a.out.now in
-    let e : l.loop-i.i ≡ count = omega arith in
+    let e : c.loop-i.i ≡ count = omega arith in
     let words = words_at a.text.now a.at count in
-    rw e at l.loop-i.invariant.2 ∙ sets_all a.out.now words (sym (words_length a.text.now a.at count))
+    rw e at c.loop-i.invariant.2 ∙ sets_all a.out.now words (sym (words_length a.text.now a.at count))
 
 pub words_at_spec : {M : Type 1} → statement M
 words_at_spec =
@@ -57,7 +55,7 @@ words_at_spec =
     loop_holds
     (λ c. omega arith)
     (λ c. omega arith)
-    (λ c κs. let s = c.before.before.before.before in record { digits_alone = s.requires.digits_alone; inside = omega arith })
+    (λ c κs. record { digits_alone = c.requires.digits_alone; inside = omega arith })
     (λ c. omega arith)
     (λ c. omega arith)
     (λ c. omega arith)
