@@ -177,8 +177,8 @@ number_of_hex (suc k) x l =
     let t : List ℕ = digit_of (x % 16) ∷ [] in
     let d : get_or (s ++ t) (0 + k) 0 ≡ digit_of (x % 16) =
     ap (λ (j : ℕ). get_or (s ++ t) j 0) (omega arith) ∙ get_or_at s _ [] 0 k (hex_length k (x / 16)) in
-    rw (
-      hex_last k x,
+    ap (λ (written : List ℕ). number_at written 0 (suc k)) (hex_last k x)
+    ∙ rw (
       d,
       number_front s t k (omega (arith, hex_length k (x / 16))),
       number_of_hex k (x / 16) (omega (arith, pow-suc 16 k)),

@@ -19,39 +19,29 @@ invariant-loop recs col few low high n left₀ u₀ left u =
 abbrev decreases-loop : tie.decreases-loop-u
 decreases-loop recs col few low high n left₀ u₀ left u = n - u
 
--- does a card's word lie there?
-abbrev test : tie.Start invariant-loop decreases-loop → ℕ → Bool
-test start v = lies start.args.low start.args.high (word_in start.args.recs.now start.args.col v)
-
 -- whether the card's word does
 tested : (c : tie.After-lies invariant-loop decreases-loop)
-    → let l = c.before.before.before in
-    c.lies.result ≡ test l.before.before l.loop-u.u
+    → c.lies.result ≡ (λ (v : ℕ). lies c.args.low c.args.high (word_in c.args.recs.now c.args.col v)) c.loop-u.u
 tested c =
     let a = c.args in
     c.lies.ensures ∙ ap (lies a.low a.high) c.said.ensures
 
 more : tie.Need-returns-then-left-eq0 invariant-loop decreases-loop
 more c =
-    let l = c.before.before.before.before.before in
-    let start = l.before.before in
-    let z = count_yes l.loop-u.u (test start) (sym (tested c.before.before) ∙ c.if-lies.true) in
-    sym (more_already (test start) start.args.col.n start.args.few (l.loop-u.u + 1) (omega arith) (omega (arith, z)))
+    let z = count_yes c.loop-u.u (λ (v : ℕ). lies c.args.low c.args.high (word_in c.args.recs.now c.args.col v)) (sym (tested c.before.before) ∙ c.if-lies.true) in
+    sym (more_already (λ (v : ℕ). lies c.args.low c.args.high (word_in c.args.recs.now c.args.col v)) c.args.col.n c.args.few (c.loop-u.u + 1) (omega arith) (omega (arith, z)))
 
 loop_again : tie.Need-loop-u-preserved invariant-loop decreases-loop
 loop_again c =
-    let l = c.before.before.before.before in
-    let start = l.before.before in
     let e = sym (tested c.before) in
     ⊎_elim
-    (λ w. let z = count_yes l.loop-u.u (test start) (e ∙ w.if-lies.true) in (omega arith, refl, omega (arith, z)))
-    (λ w. let z = count_no l.loop-u.u (test start) (e ∙ w.if-lies.false) in (omega arith, refl, omega (arith, z)))
+    (λ w. let z = count_yes c.loop-u.u (λ (v : ℕ). lies c.args.low c.args.high (word_in c.args.recs.now c.args.col v)) (e ∙ w.if-lies.true) in (omega arith, refl, omega (arith, z)))
+    (λ w. let z = count_no c.loop-u.u (λ (v : ℕ). lies c.args.low c.args.high (word_in c.args.recs.now c.args.col v)) (e ∙ w.if-lies.false) in (omega arith, refl, omega (arith, z)))
     c.if-lies.branch-raw
 
 no_more : tie.Need-returns invariant-loop decreases-loop
 no_more c =
-    let start = c.before.before.before in
-    sym (never_more (test start) start.args.col.n start.args.few c.loop-u.u (omega arith) (omega arith))
+    sym (never_more (λ (v : ℕ). lies c.args.low c.args.high (word_in c.args.recs.now c.args.col v)) c.args.col.n c.args.few c.loop-u.u (omega arith) (omega arith))
 
 pub more_than_spec : {M : Type 1} → statement M
 more_than_spec =
@@ -59,7 +49,7 @@ more_than_spec =
     (tie.spec
     invariant-loop
     decreases-loop
-    (λ c. (omega arith, refl, omega (arith, count_zero (test c.before))))
+    (λ c. (omega arith, refl, omega (arith, count_zero (λ (v : ℕ). lies c.args.low c.args.high (word_in c.args.recs.now c.args.col v)))))
     (λ c κs. search rules)
     (λ c κs. search rules)
     more

@@ -9,31 +9,22 @@ use Rattle.columns.proofs.Sent.{sent_x, sent_none, sent_never, enough_rest, enou
 use Rattle.columns.proofs.sent_enough.Statement.{statement}
 use Rattle.columns.proofs.sent_enough.Tie as tie
 
--- the words of the column
-abbrev words : tie.Start → ℕ → ℕ
-words start = word_in start.args.recs.now start.args.col
-
 a_count : tie.Need-returns-then-value-m
 a_count c =
-    let y = c.y in
-    let start = c.before.before.before.before.before.before in
-    let n = start.args.col.n in
-    rw y.given.1
-    (c.all_but.ensures ∙ ap (enough n start.args.f) (sent_x (words start) start.args.m n y.given.0.0 (omega arith)))
+    let n = c.args.col.n in
+    rw c.in-Count.is
+    (c.all_but.ensures ∙ ap (enough n c.args.f) (sent_x (word_in c.args.recs.now c.args.col) c.args.m n c.in-Count.x (omega arith)))
 
 no_count : tie.Need-returns-else-value-m
 no_count c =
-    let y = c.y in
-    let start = c.before.before.before.before.before.before in
-    let n = start.args.col.n in
-    rw (y.given.1, sent_never (words start) start.args.m n y.given.0.0 c.if-value-m.false) (enough_zero n start.args.f)
+    let n = c.args.col.n in
+    rw (c.in-Count.is, sent_never (word_in c.args.recs.now c.args.col) c.args.m n c.in-Count.x c.if-value-m.false) (enough_zero n c.args.f)
 
 none : tie.Need-returns-in-None
 none c =
-    let start = c.before.before.before.before in
-    let n = start.args.col.n in
-    rw (c.enum_told-1.given.1, c.more_than.ensures)
-    (enough_rest n start.args.f _ _ (sent_none (words start) start.args.m n))
+    let n = c.args.col.n in
+    rw (c.in-None.is, c.more_than.ensures)
+    (enough_rest n c.args.f _ _ (sent_none (word_in c.args.recs.now c.args.col) c.args.m n))
 
 pub sent_enough_spec : {M : Type 1} → statement M
 sent_enough_spec =

@@ -44,31 +44,26 @@ loop_again c =
           (λ v lv k. c.loop-u.invariant.3 v lv (omega arith)) (λ k. absurd (omega arith)),
     ))
     (⊎_elim
-    (λ w. rw w.3 (
+    (λ w. rw w.best-is (
       omega arith,
       c.loop-u.invariant.1,
       c.loop-u.invariant.2,
       below_more (λ (v : ℕ). word v < c.loop-u.best → sent_by a.col.n votes (Count (word v)) ≤ a.f) u
-          c.loop-u.invariant.3 (λ k. rw (← e) (omega (arith, sent (omega arith), ltb-false a.f times (sym w.best-is.ensures ∙ w.2.left)))),
+          c.loop-u.invariant.3 (λ k. rw (← e) (omega (arith, sent (omega arith), ltb-false a.f times (sym w.more_than.ensures ∙ w.if-more_than.false)))),
     ))
-    (λ w. rw w.1 (
+    (λ w. rw w.best-is (
       omega arith,
       c.loop-u.invariant.1,
       c.loop-u.invariant.2,
       below_more (λ (v : ℕ). word v < c.loop-u.best → sent_by a.col.n votes (Count (word v)) ≤ a.f) u
-          c.loop-u.invariant.3 (λ k. absurd (omega (arith, w.0.left))),
+          c.loop-u.invariant.3 (λ k. absurd (omega (arith, w.if-x-best.false))),
     )))
     c.if-x-best.branch-raw
 
--- the votes of the column
-abbrev votes : tie.Start invariant-loop decreases-loop → ℕ → Vote
-votes start = votes_in start.args.c start.args.recs.now start.args.col
-
 -- what was sent and lies below the best is not supported
 passed : (c : tie.After-loop-u invariant-loop decreases-loop)
-    → let start = c.before.before.before in
-    let n = start.args.col.n in
-    (v x : ℕ) → v < n → votes start v ≡ Count x → x < c.loop-u.best → sent_by n (votes start) (Count x) ≤ start.args.f
+    → let n = c.args.col.n in
+    (v x : ℕ) → v < n → (votes_in c.args.c c.args.recs.now c.args.col) v ≡ Count x → x < c.loop-u.best → sent_by n (votes_in c.args.c c.args.recs.now c.args.col) (Count x) ≤ c.args.f
 passed c v x lv e l =
     let a = c.args in
     let s : word_in a.recs.now a.col v ≡ x = (read_is a.c (word_in a.recs.now a.col v) x e).0 in
@@ -76,17 +71,14 @@ passed c v x lv e l =
 
 found : tie.Need-returns-then-best-c invariant-loop decreases-loop
 found c =
-    let l = c.before.before in
-    let start = l.before.before in
     sym
-    (supported_found (votes start) start.args.col.n start.args.f start.args.c l.loop-u.best c.if-best-c.true
-    (l.loop-u.invariant.2 c.if-best-c.true) (passed c.before))
+    (supported_found (votes_in c.args.c c.args.recs.now c.args.col) c.args.col.n c.args.f c.args.c c.loop-u.best c.if-best-c.true
+    (c.loop-u.invariant.2 c.if-best-c.true) (passed c.before))
 
 none : tie.Need-returns-else-best-c invariant-loop decreases-loop
 none c =
-    let start = c.before.before.before.before in
     sym
-    (supported_none (votes start) start.args.col.n start.args.f start.args.c
+    (supported_none (votes_in c.args.c c.args.recs.now c.args.col) c.args.col.n c.args.f c.args.c
     (λ v x lv e l. passed c.before v x lv e (omega arith)))
 
 pub smallest_supported_spec : {M : Type 1} → statement M

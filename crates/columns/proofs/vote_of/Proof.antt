@@ -24,20 +24,16 @@ invariant-loop recs col f m n enough tally₀ u₀ tally u =
 abbrev decreases-loop : tie.decreases-loop-u
 decreases-loop recs col f m n enough tally₀ u₀ tally u = col.n - u
 
--- the votes of the column
-abbrev votes : tie.Start invariant-loop decreases-loop → ℕ → Vote
-votes start = votes_in start.args.m start.args.recs.now start.args.col
-
 -- where x is sent once more: its tally is small, and is how often it was sent
 more : (c : tie.Then-x-m invariant-loop decreases-loop)
     → let l = c.before.before.before in
-    let v = votes l.before.before in
+    let v = (votes_in c.args.m c.args.recs.now c.args.col) in
     let x = c.said-x.result in
     let again = get_or l.loop-u.tally x 0 + 1 in
     (again ≤ 256) × (v l.loop-u.u ≡ Count x) × (sent_by (l.loop-u.u + 1) v (Count x) ≡ again)
 more c =
     let l = c.before.before.before in
-    let v = votes l.before.before in
+    let v = (votes_in c.args.m c.args.recs.now c.args.col) in
     let m = l.args.m in
     let u = l.loop-u.u in
     let x = c.said-x.result in
@@ -47,44 +43,40 @@ more c =
 
 found : tie.Need-returns-then-enough-t invariant-loop decreases-loop
 found c =
-    let l = c.before.before.before.before in
-    let start = l.before.before in
     let x = c.said-x.result in
     let enough = (more c.before).2 in
     sym
-    (vote_found (votes start) start.args.col.n start.args.f start.args.m (l.loop-u.u + 1) x
+    (vote_found (votes_in c.args.m c.args.recs.now c.args.col) c.args.col.n c.args.f c.args.m (c.loop-u.u + 1) x
     (omega arith) (omega arith) (omega arith) (omega (arith, enough)))
 
 loop_again : tie.Need-loop-u-preserved invariant-loop decreases-loop
 loop_again c =
-    let l = c.before.before.before in
-    let a = l.args in
-    let v = votes l.before.before in
-    let u = l.loop-u.u in
+    let a = c.args in
+    let v = (votes_in c.args.m c.args.recs.now c.args.col) in
+    let u = c.loop-u.u in
     let x = c.said-x.result in
     ⊎_elim
-    (λ w. let r = more (record { before = c.before; if1 = w.if-x-m }) in
+    (λ w. let r = more (record { before = c.before; if-x-m = w.if-x-m }) in
     rw w.tally-is (
       omega arith,
-      simp length-set l.loop-u.invariant.1,
-      tally_more v a.m l.loop-u.tally u x (omega arith) r.1 w.if-x-m.true l.loop-u.invariant.2,
-      still_short v a.col.n a.f a.m u x r.1 (omega (arith, r.2)) l.loop-u.invariant.3,
+      simp length-set c.loop-u.invariant.1,
+      tally_more v a.m c.loop-u.tally u x (omega arith) r.1 w.if-x-m.true c.loop-u.invariant.2,
+      still_short v a.col.n a.f a.m u x r.1 (omega (arith, r.2)) c.loop-u.invariant.3,
     ))
     (λ w. let z : v u ≡ None = ap (read_vote a.m) (sym c.said-x.ensures) ∙ read_above a.m x w.if-x-m.false in
     rw w.tally-is (
       omega arith,
-      l.loop-u.invariant.1,
-      tally_same v a.m l.loop-u.tally u z l.loop-u.invariant.2,
-      short_still v a.col.n a.f a.m u z l.loop-u.invariant.3,
+      c.loop-u.invariant.1,
+      tally_same v a.m c.loop-u.tally u z c.loop-u.invariant.2,
+      short_still v a.col.n a.f a.m u z c.loop-u.invariant.3,
     ))
     c.if-x-m.branch-raw
 
 returns : tie.Need-returns invariant-loop decreases-loop
 returns c =
-    let start = c.before.before.before in
-    let n = start.args.col.n in
+    let n = c.args.col.n in
     let e : c.loop-u.u ≡ n = omega arith in
-    sym (vote_none (votes start) n start.args.f start.args.m (rw e at c.loop-u.invariant.3))
+    sym (vote_none (votes_in c.args.m c.args.recs.now c.args.col) n c.args.f c.args.m (rw e at c.loop-u.invariant.3))
 
 pub vote_of_spec : {M : Type 1} → statement M
 vote_of_spec =
@@ -93,14 +85,13 @@ vote_of_spec =
     invariant-loop
     decreases-loop
     (λ c. omega arith)
-    (λ c. let v = votes c.before in
-    (omega arith, refl, tally_start v c.args.m 128 (omega arith), λ j l. omega (arith, sent_zero v (Count j))))
+    (λ c. let v = (votes_in c.args.m c.args.recs.now c.args.col) in
+    (omega arith, refl, tally_start v c.args.m 128 (omega arith), λ j k. omega (arith, sent_zero v (Count j))))
     (λ c κs. search rules)
     (λ c. search rules)
     (λ c. omega arith)
-    (λ c. let l = c.before.before.before in
-    let x = c.said-x.result in
-    omega (arith, l.loop-u.invariant.2.counts x c.if-x-m.true, sent_le (votes l.before.before) l.loop-u.u (Count x)))
+    (λ c. let x = c.said-x.result in
+    omega (arith, c.loop-u.invariant.2.counts x c.if-x-m.true, sent_le (votes_in c.args.m c.args.recs.now c.args.col) c.loop-u.u (Count x)))
     (λ c. omega arith)
     (λ c. omega (arith, (more c).0))
     (λ c. search rules)
