@@ -7,13 +7,13 @@ use Rattle.rules.specs.OneBeat.{gained}
 use Rattle.steps.proofs.gain.Statement.{statement}
 use Rattle.steps.proofs.gain.Tie as tie
 
-count : tie.Need-returns
+count : tie.Need-returns-in-Count
 unfolding gained
-count c = rw c.before.a.given.1
+count c = rw c.in-Count.is
 
-none : tie.Need-returns-2
+none : tie.Need-returns-in-None
 unfolding gained
-none c = rw c.enum_told.given.1
+none c = rw c.in-None.is
 
 pub gain_spec : {M : Type 1} → statement M
 gain_spec =
@@ -23,7 +23,7 @@ gain_spec =
     (λ c. search rules)
     (λ c. search rules)
     (λ c. search rules)
-    (λ c. let a = c.before.before.before.args in omega (arith, mod-lt (c.before.a.given.0.0 + 1) {m = a.c} (omega arith)))
+    (λ c. let a = c.args in omega (arith, mod-lt (c.in-Count.x + 1) {m = a.c} (omega arith)))
     (λ c. search rules)
     count
     none)

@@ -14,20 +14,19 @@ unfolding obeyed
 no_count true king = refl
 no_count false king = refl
 
-sure : tie.Need-returns
+sure : tie.Need-returns-then-b
 unfolding obeyed
-sure c = rw (c.before.before.a.given.1, c.if1.true)
+sure c = rw (c.in-Count.is, c.if-b.true)
 
-not_sure : tie.Need-returns-2
+not_sure : tie.Need-returns-else-b
 unfolding obeyed
 not_sure c =
-    let count = c.before.before.before in
-    rw (count.a.given.1, c.before.if1.false, c.count_or_0.ensures)
+    rw (c.in-Count.is, c.if-b.false, c.count_or_0.ensures)
 
-none : tie.Need-returns-3
+none : tie.Need-returns-in-None
 none c =
-    let a = c.before.before.before.args in
-    rw (c.before.enum_told.given.1, c.count-or-02.ensures) (sym (no_count a.b a.king))
+    let a = c.args in
+    rw (c.in-None.is, c.count_or_0-in-None.ensures) (sym (no_count a.b a.king))
 
 pub obey_spec : {M : Type 1} → statement M
 obey_spec =

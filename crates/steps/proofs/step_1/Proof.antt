@@ -6,7 +6,7 @@ use Rattle.steps.proofs.step_1.Tie as tie
 
 returns : tie.Need-returns
 unfolding step1
-returns c = rw (c.smallest_supported.ensures, c.before.sent_enough.ensures)
+returns c = rw (c.smallest_supported.ensures, c.sent_enough-b.ensures)
 
 pub step_1_spec : {M : Type 1} → statement M
 step_1_spec = tie.close (tie.spec (λ c κs. search rules) (λ c κs. search rules) returns)

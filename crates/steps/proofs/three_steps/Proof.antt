@@ -5,24 +5,22 @@ use Rattle.rules.specs.OneBeat.{three_steps}
 use Rattle.steps.proofs.three_steps.Statement.{statement}
 use Rattle.steps.proofs.three_steps.Tie as tie
 
-zeroth : tie.Need-returns
+zeroth : tie.Need-returns-then-d-eq0
 unfolding three_steps
-zeroth c = rw (eq-eqb _ _ c.before.if1.true) c.step_0.ensures
+zeroth c = rw (eq-eqb _ _ c.if-d-eq0.true) c.step_0.ensures
 
-first : tie.Need-returns-2
+first : tie.Need-returns-then-d-eq1
 unfolding three_steps
-first c = rw (ne_eqb _ _ c.before.before.if1.false, eq-eqb _ _ c.before.if2.true) c.step_1.ensures
+first c = rw (ne_eqb _ _ c.if-d-eq0.false, eq-eqb _ _ c.if-d-eq1.true) c.step_1.ensures
 
-second : tie.Need-returns-3
+second : tie.Need-returns
 unfolding three_steps
 second c =
-    let heard = c.before.before in
-    let not_first = heard.before in
     rw (
-      ne_eqb _ _ not_first.before.if1.false,
-      ne_eqb _ _ not_first.if2.false,
-      ← heard.said.ensures,
-      ← c.before.read_vote.ensures,
+      ne_eqb _ _ c.if-d-eq0.false,
+      ne_eqb _ _ c.if-d-eq1.false,
+      ← c.said.ensures,
+      ← c.read_vote-king.ensures,
     )
     c.step_2.ensures
 

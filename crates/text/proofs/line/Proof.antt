@@ -11,4 +11,4 @@ line_spec =
     (λ c. search rules)
     (λ c. search rules)
     (λ c. search rules)
-    (λ c. (c.before.place_of.ensures.part, rw c.before.place_of.ensures.start)))
+    (λ c. (c.place_of-place.ensures.part, rw c.place_of-place.ensures.start)))

@@ -8,5 +8,5 @@ line_refusal_spec =
     tie.close
     (tie.spec
     (λ c κs. search rules)
-    (λ c. rw (← c.before.place_of.ensures.found, c.if1.true))
-    (λ c. rw (← c.before.place_of.ensures.found, c.if1.false)))
+    (λ c. rw (← c.place_of-place.ensures.found, c.if-place.true))
+    (λ c. rw (← c.place_of-place.ensures.found, c.if-place.false)))

@@ -9,22 +9,21 @@ use Rattle.text.proofs.Accepted.{read_rest}
 use Rattle.text.proofs.read_refusal.Statement.{statement}
 use Rattle.text.proofs.read_refusal.Tie as tie
 
-returns : tie.Need-returns
+returns : tie.Need-returns-then-refusal-ne0
 returns c =
-    let a = c.before.before.before.args in
+    let a = c.args in
     shape_refused (bad_cards a.n) (bad_broken a.n a.f) (read_rest (record_words a.f) a.text.now a.out) _
-    c.before.shape_refusal.ensures c.if1.true
+    c.shape_refusal-refusal.ensures c.if-refusal-ne0.true
 
 -- refusals 1 and 2 are not given
-later : (c : tie.After-record-words)
-    → let a = c.before.before.before.before.args in
-    read_refusal a.n a.f a.text.now a.out ≡ read_rest c.record_words.result a.text.now a.out
+later : (c : tie.After-record_words-size)
+    → let a = c.args in
+    read_refusal a.n a.f a.text.now a.out ≡ read_rest c.record_words-size.result a.text.now a.out
 later c =
-    let s = c.before.before in
-    let a = s.before.before.args in
-    rw c.record_words.ensures
+    let a = c.args in
+    rw c.record_words-size.ensures
     (shape_passed (bad_cards a.n) (bad_broken a.n a.f) (read_rest (record_words a.f) a.text.now a.out) _
-    s.shape_refusal.ensures c.before.if1.false)
+    c.shape_refusal-refusal.ensures c.if-refusal-ne0.false)
 
 pub read_refusal_spec : {M : Type 1} → statement M
 read_refusal_spec =
@@ -34,10 +33,10 @@ read_refusal_spec =
     returns
     (λ c κs. search rules)
     (λ c. search rules)
-    (λ c. rw (later c.before, ne_eqb _ _ c.if2.true))
+    (λ c. rw (later c.before, ne_eqb _ _ c.if-out-size.true))
     (λ c. search rules)
     (λ c κs. search rules)
     (λ c. let s = c.before.before in
-    rw (later s.before, eq-eqb _ _ s.if2.false, ← c.before.well-formed-2.ensures, c.if3.true))
+    rw (later s.before, eq-eqb _ _ s.if-out-size.false, ← c.well-formed-2.ensures, c.if-not-well_formed.true-raw))
     (λ c. let s = c.before.before in
-    rw (later s.before, eq-eqb _ _ s.if2.false, ← c.before.well-formed-2.ensures, c.if3.false)))
+    rw (later s.before, eq-eqb _ _ s.if-out-size.false, ← c.well-formed-2.ensures, c.if-not-well_formed.false-raw)))

@@ -10,22 +10,21 @@ use Rattle.text.proofs.Accepted.{write_rest}
 use Rattle.text.proofs.write_refusal.Statement.{statement}
 use Rattle.text.proofs.write_refusal.Tie as tie
 
-returns : tie.Need-returns
+returns : tie.Need-returns-then-refusal-ne0
 returns c =
-    let a = c.before.before.args in
+    let a = c.args in
     shape_refused (bad_cards a.n) (bad_broken a.n a.f) (write_rest (record_words a.f) a.words a.out) _
-    c.before.shape_refusal.ensures c.if1.true
+    c.shape_refusal-refusal.ensures c.if-refusal-ne0.true
 
 -- refusals 1 and 2 are not given
-later : (c : tie.After-record-words)
-    → let a = c.before.before.before.args in
-    write_refusal a.n a.f a.words a.out ≡ write_rest c.record_words.result a.words a.out
+later : (c : tie.After-record_words-size)
+    → let a = c.args in
+    write_refusal a.n a.f a.words a.out ≡ write_rest c.record_words-size.result a.words a.out
 later c =
-    let s = c.before.before in
-    let a = s.before.args in
-    rw c.record_words.ensures
+    let a = c.args in
+    rw c.record_words-size.ensures
     (shape_passed (bad_cards a.n) (bad_broken a.n a.f) (write_rest (record_words a.f) a.words a.out) _
-    s.shape_refusal.ensures c.before.if1.false)
+    c.shape_refusal-refusal.ensures c.if-refusal-ne0.false)
 
 pub write_refusal_spec : {M : Type 1} → statement M
 write_refusal_spec =
@@ -35,9 +34,9 @@ write_refusal_spec =
     returns
     (λ c κs. search rules)
     (λ c. search rules)
-    (λ c. rw (later c.before, ne_eqb _ _ c.if2.true))
+    (λ c. rw (later c.before, ne_eqb _ _ c.if-words-size.true))
     (λ c. search rules)
     (λ c. let w = c.before.before in
-    rw (later w, eq-eqb _ _ c.before.if2.false, ne_eqb _ (4 * w.record_words.result) c.if3.true))
+    rw (later w, eq-eqb _ _ c.if-words-size.false, ne_eqb _ (4 * w.record_words-size.result) c.if-out-size.true))
     (λ c. let w = c.before.before in
-    rw (later w, eq-eqb _ _ c.before.if2.false, eq-eqb _ (4 * w.record_words.result) c.if3.false)))
+    rw (later w, eq-eqb _ _ c.if-words-size.false, eq-eqb _ (4 * w.record_words-size.result) c.if-out-size.false)))

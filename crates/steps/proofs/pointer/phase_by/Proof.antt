@@ -8,21 +8,19 @@ use Rattle.rules.specs.OneBeat.{pointer, pointed}
 use Rattle.steps.proofs.pointer.phase_by.Statement.{statement}
 use Rattle.steps.proofs.pointer.phase_by.Tie as tie
 
-zeroth : tie.Need-returns
+zeroth : tie.Need-returns-then-x-part-eq0
 unfolding pointer pointed
 zeroth c =
-    let count = c.before.before.before in
-    rw (count.d.given.1, eq-eqb _ _ c.before.if1.true, c.count_or_0.ensures)
+    rw (c.in-Count.is, eq-eqb _ _ c.if-x-part-eq0.true, c.count_or_0.ensures)
 
-first : tie.Need-returns-2
+first : tie.Need-returns-else-x-part-eq0
 unfolding pointer pointed
 first c =
-    let count = c.before.before.before in
-    rw (count.d.given.1, ne_eqb _ _ c.before.if1.false, c.count-or-02.ensures)
+    rw (c.in-Count.is, ne_eqb _ _ c.if-x-part-eq0.false, c.count_or_0-else-x-part-eq0.ensures)
 
-none : tie.Need-returns-3
+none : tie.Need-returns-in-None
 unfolding pointer pointed count_or0
-none c = rw c.enum_told.given.1 (sym (zero-mod _))
+none c = rw c.in-None.is (sym (zero-mod _))
 
 pub phase_by_spec : {M : Type 1} → statement M
 phase_by_spec =

@@ -6,29 +6,25 @@ use Rattle.rules.specs.OneBeat.{pointer, phase}
 use Rattle.steps.proofs.pointer.phase_of.Statement.{statement}
 use Rattle.steps.proofs.pointer.phase_of.Tie as tie
 
-zero_own : tie.Need-returns
+zero_own : tie.Need-returns-in-Count
 unfolding phase pointer or_else
 zero_own c =
-    let half = c.before.before.before in
-    rw (eq-eqb _ _ half.if1.true, c.phase_by.ensures, ← half.before.requires.is, c.before.enum_told.given.1)
+    rw (eq-eqb _ _ c.if-half-eq0.true, c.phase_by.ensures, ← c.requires.is, c.in-Count.is)
 
-zero_other : tie.Need-returns-2
+zero_other : tie.Need-returns-in-None
 unfolding phase pointer or_else
 zero_other c =
-    let half = c.before.before.before in
-    rw (eq-eqb _ _ half.if1.true, c.phase-by2.ensures, ← half.before.requires.is, c.before.enum-told2.given.1)
+    rw (eq-eqb _ _ c.if-half-eq0.true, c.phase_by-in-None.ensures, ← c.requires.is, c.in-None.is)
 
-one_own : tie.Need-returns-3
+one_own : tie.Need-returns-in-Count-d1
 unfolding phase pointer or_else
 one_own c =
-    let half = c.before.before.before in
-    rw (ne_eqb _ _ half.if1.false, c.phase-by3.ensures, ← half.before.requires.is, c.before.enum-told3.given.1)
+    rw (ne_eqb _ _ c.if-half-eq0.false, c.phase_by-in-Count-d1.ensures, ← c.requires.is, c.in-Count-d1.is)
 
-one_other : tie.Need-returns-4
+one_other : tie.Need-returns-in-None-d1
 unfolding phase pointer or_else
 one_other c =
-    let half = c.before.before.before in
-    rw (ne_eqb _ _ half.if1.false, c.phase-by4.ensures, ← half.before.requires.is, c.before.enum-told4.given.1)
+    rw (ne_eqb _ _ c.if-half-eq0.false, c.phase_by-in-None-d1.ensures, ← c.requires.is, c.in-None-d1.is)
 
 pub phase_of_spec : {M : Type 1} → statement M
 phase_of_spec =

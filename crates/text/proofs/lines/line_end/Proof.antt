@@ -9,24 +9,22 @@ use Rattle.text.proofs.FirstLine.{feed_here, no_feed_here, line_ended}
 use Rattle.text.proofs.lines.line_end.Statement.{statement}
 use Rattle.text.proofs.lines.line_end.Tie as tie
 
-abbrev invariant-loop : tie.invariant-loop
+abbrev invariant-loop : tie.invariant-loop-end
 invariant-loop text start end₀ end = end + line_length (drop end text) ≡ end_from text start
 
-abbrev decreases-loop : tie.decreases-loop
+abbrev decreases-loop : tie.decreases-loop-end
 decreases-loop text start end₀ end = length text - end
 
-returns : tie.Need-returns invariant-loop decreases-loop
+returns : tie.Need-returns-then-text-end-eq-LINE_FEED invariant-loop decreases-loop
 returns c =
-    let l = c.before.before.before in
-    omega (arith, feed_here l.before.args.text.now l.loop.end c.before.before.loop-test.true c.if1.true)
+    omega (arith, feed_here c.args.text.now c.loop-end.end c.loop-end-test.true c.if-text-end-eq-LINE_FEED.true)
 
-loop_again : tie.Need-loop-preserved invariant-loop decreases-loop
+loop_again : tie.Need-loop-end-preserved invariant-loop decreases-loop
 loop_again c =
-    let l = c.before.before.before in
-    omega (arith, no_feed_here l.before.args.text.now l.loop.end c.before.before.loop-test.true c.if1.false)
+    omega (arith, no_feed_here c.args.text.now c.loop-end.end c.loop-end-test.true c.if-text-end-eq-LINE_FEED.false)
 
-returns-2 : tie.Need-returns-2 invariant-loop decreases-loop
-returns-2 c = let l = c.before in omega (arith, line_ended l.before.args.text.now l.loop.end c.loop-test.false)
+returns-2 : tie.Need-returns invariant-loop decreases-loop
+returns-2 c = omega (arith, line_ended c.args.text.now c.loop-end.end c.loop-end-test.false)
 
 pub line_end_spec : {M : Type 1} → statement M
 line_end_spec =
