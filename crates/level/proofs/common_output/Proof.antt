@@ -5,19 +5,17 @@ use Rattle.level.proofs.Places.{outputs_within}
 use Rattle.level.proofs.common_output.Statement.{statement}
 use Rattle.level.proofs.common_output.Tie as tie
 
-column_requires : tie.Need-column-requires
-column_requires c κs = rw c.output_place.ensures.0 (outputs_within c.before.before.requires.0).place
+column_requires : tie.Need-column-outputs-requires
+column_requires c κs = rw c.output_place.ensures.0 (outputs_within c.requires.0).place
 
-most_requires : tie.Need-most-frequent-requires
+most_requires : tie.Need-most_frequent-requires
 most_requires c κs =
-    let start = c.before.before.before.before in
-    rw (c.before.column.ensures, c.before.before.output_place.ensures.0)
-    (record { within = outputs_within start.requires.0; some = omega (arith, start.requires.0.two); room = start.requires.1 })
+    rw (c.column-outputs.ensures, c.output_place.ensures.0)
+    (record { within = outputs_within c.requires.0; some = omega (arith, c.requires.0.two); room = c.requires.1 })
 
 returns : tie.Need-returns
 returns c =
-    let column = c.before.before in
-    rw (c.most_frequent.ensures, column.column.ensures, column.before.output_place.ensures.0)
+    rw (c.most_frequent.ensures, c.column-outputs.ensures, c.output_place.ensures.0)
 
 pub common_output_spec : {M : Type 1} → statement M
 common_output_spec = tie.close (tie.spec (λ c κs. search rules) column_requires (λ c. search rules) most_requires returns)

@@ -24,18 +24,18 @@ returns c =
     let start = own.before.before in
     let r = row start in
     let common = half_common start.args.recs.now start.args.g in
-    let m0 = one.before.common_output.ensures ∙ common zero.half_zero.result 0 zero.half_zero.ensures in
-    let m1 = c.common-output2.ensures ∙ common one.half_one.result 1 one.half_one.ensures in
+    let m0 = one.common_output.ensures ∙ common zero.half_zero.result 0 zero.half_zero.ensures in
+    let m1 = c.common_output-2.ensures ∙ common one.half_one.result 1 one.half_one.ensures in
     simp (
       m1,
       m0,
-      voted.voted_one.ensures,
-      voted.before.voted_zero.ensures,
-      votes.next-vote2.ensures,
-      votes.before.next_vote.ensures,
-      own.read_level.ensures,
-      ap (λ (s : Standing). s.a) stand.next_standing.ensures,
-      ap (λ (s : Standing). s.b) stand.next_standing.ensures,
+      voted.voted_one-voted.ensures,
+      voted.voted_zero.ensures,
+      votes.next_vote-vote1.ensures,
+      votes.next_vote-vote0.ensures,
+      own.read_level-own.ensures,
+      ap (λ (s : Standing). s.a) stand.next_standing-stand.ensures,
+      ap (λ (s : Standing). s.b) stand.next_standing-stand.ensures,
       r.m0,
       r.m1,
       r.again,
@@ -52,7 +52,7 @@ next_level_spec =
     (λ c κs. let start = c.before.before.before.before.before in omega (arith, (row start).m1))
     (λ c κs. let own = c.before.before.before.before in
     let start = own.before.before in
-    (start.requires, own.read_level.ensures))
+    (start.requires, own.read_level-own.ensures))
     (λ c κs. let start = c.before.before.before.before.before.before.before in (halves_asked start.requires).0)
     (λ c κs. let start = c.before.before.before.before.before.before.before.before in
     rw c.half_zero.ensures (half_fits start.requires.split 0 (omega arith), omega (arith, start.requires.split.fits.broken)))

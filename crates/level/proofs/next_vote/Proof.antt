@@ -18,21 +18,19 @@ modulus_small (suc i) f l = rw (ne_eqb (suc i) 0 (omega arith)) (omega arith)
 returns : tie.Need-returns
 unfolding next_vote
 returns c =
-    let start = c.before.before.before.before in
-    rw (c.vote_of.ensures, c.before.before.column.ensures, start.requires.modulus)
+    rw (c.vote_of.ensures, c.column.ensures, c.requires.modulus)
 
 pub next_vote_spec : {M : Type 1} → statement M
 next_vote_spec =
     tie.close
     (tie.spec
-    (λ c κs. split_place c.before.requires.split c.before.args.half (omega arith))
+    (λ c κs. split_place c.requires.split c.args.half (omega arith))
     (λ c. search rules)
-    (λ c κs. let start = c.before.before.before in
-    let fits = start.requires.split.fits in
-    rw (c.before.column.ensures, start.requires.modulus)
+    (λ c κs. let fits = c.requires.split.fits in
+    rw (c.column.ensures, c.requires.modulus)
     (record {
-      within = column_within start.requires.split start.args.half (omega arith);
+      within = column_within c.requires.split c.args.half (omega arith);
       few = fits.few;
-      room = modulus_small start.args.half start.args.g.f fits.broken;
+      room = modulus_small c.args.half c.args.g.f fits.broken;
     }))
     returns)

@@ -38,11 +38,10 @@ put_level_spec =
     (λ c. search rules)
     (λ c. simp length-set (omega arith))
     (λ c. simp length-set)
-    (λ c. let vote1 = c.before.before in
-    simp (
+    (λ c. simp (
       c.bit_of.ensures,
-      c.before.word-of3.ensures,
-      vote1.word-of2.ensures,
-      vote1.before.word_of.ensures,
+      c.word_of-3.ensures,
+      c.word_of-2.ensures,
+      c.word_of.ensures,
       unary_clauses,
     )))

@@ -15,35 +15,28 @@ unfolding cooldown follows
 old_none m again (Count y) wait = refl
 old_none m again None wait = refl
 
-no_old : tie.Need-returns
-no_old c = let a = c.before.before.args in rw c.enum_told.given.1 (sym (old_none a.m a.restart a.new a.wait))
+no_old : tie.Need-returns-in_default
+no_old c = let a = c.args in rw c.in_default.is (sym (old_none a.m a.restart a.new a.wait))
 
-no_new : tie.Need-returns-2
+no_new : tie.Need-returns-in_default-new
 unfolding cooldown follows
 no_new c =
-    let count = c.before.before.before in
-    rw (count.old.given.1, c.enum-told2.given.1)
+    rw (c.in-Count.is, c.in_default-new.is)
 
-jumped : tie.Need-returns-3
+jumped : tie.Need-returns-then-y-x
 unfolding cooldown follows
 jumped c =
-    let n = c.before.before in
-    let o = n.before.before.before in
-    rw (o.old.given.1, n.new.given.1, ne_eqb _ _ c.if1.true)
+    rw (c.in-Count.is, c.in-Count-new.is, ne_eqb _ _ c.if-y-x.true)
 
-done : tie.Need-returns-4
+done : tie.Need-returns-then-wait-eq0
 unfolding cooldown follows
 done c =
-    let n = c.before.before.before in
-    let o = n.before.before.before in
-    rw (o.old.given.1, n.new.given.1, eq-eqb _ _ c.before.if1.false) (omega arith)
+    rw (c.in-Count.is, c.in-Count-new.is, eq-eqb _ _ c.if-y-x.false) (omega arith)
 
-less : tie.Need-returns-5
+less : tie.Need-returns-else-wait-eq0
 unfolding cooldown follows
 less c =
-    let n = c.before.before.before in
-    let o = n.before.before.before in
-    rw (o.old.given.1, n.new.given.1, eq-eqb _ _ c.before.if1.false)
+    rw (c.in-Count.is, c.in-Count-new.is, eq-eqb _ _ c.if-y-x.false)
 
 pub wait_after_spec : {M : Type 1} → statement M
 wait_after_spec =

@@ -8,7 +8,6 @@ pub word_at_spec : {M : Type 1} → statement M
 word_at_spec =
     tie.close
     (tie.spec
-    (λ c κs. split_place c.before.requires.split c.before.args.j (omega arith))
-    (λ c κs. let start = c.before.before in
-    rw c.column.ensures (column_within start.requires.split start.args.j (omega arith), start.requires.member))
-    (λ c. rw (c.said.ensures, c.before.column.ensures)))
+    (λ c κs. split_place c.requires.split c.args.j (omega arith))
+    (λ c κs. rw c.column.ensures (column_within c.requires.split c.args.j (omega arith), c.requires.member))
+    (λ c. rw (c.said.ensures, c.column.ensures)))

@@ -37,6 +37,6 @@ read_refusal_spec =
     (λ c. search rules)
     (λ c κs. search rules)
     (λ c. let s = c.before.before in
-    rw (later s.before, eq-eqb _ _ s.if-out-size.false, ← c.well-formed-2.ensures, c.if-not-well_formed.true-raw))
+    rw (later s.before, eq-eqb _ _ s.if-out-size.false, ← c.well_formed-2.ensures, c.if-not-well_formed.true-raw))
     (λ c. let s = c.before.before in
-    rw (later s.before, eq-eqb _ _ s.if-out-size.false, ← c.well-formed-2.ensures, c.if-not-well_formed.false-raw)))
+    rw (later s.before, eq-eqb _ _ s.if-out-size.false, ← c.well_formed-2.ensures, c.if-not-well_formed.false-raw)))

@@ -8,15 +8,14 @@ use Rattle.level.proofs.Level.phase.Statement.{statement}
 use Rattle.level.proofs.Level.phase.Tie as tie
 
 -- the half that the card is in
-half : (c : tie.Joined1)
-    → let a = c.before.before.before.before.args in
-    c.if1.half ≡ half_of a.g.n a.card
-half c = ⊎_elim (λ w. rw (w.1, lt-ltb _ _ w.0.taken)) (λ w. rw (w.1, le-ltb _ _ w.0.left)) c.if1.branch
+half : (c : tie.Joined-card-g)
+    → let a = c.args in
+    c.if-card-g.half ≡ half_of a.g.n a.card
+half c = ⊎_elim (λ w. rw (w.half-is, lt-ltb _ _ w.if-card-g.true)) (λ w. rw (w.half-is, le-ltb _ _ w.if-card-g.false)) c.if-card-g.branch-raw
 
 returns : tie.Need-returns
 returns c =
-    let p = c.before.before.before in
-    rw (c.phase_of.ensures, half c.before, p.trusted-vote2.ensures, p.before.trusted_vote.ensures)
+    rw (c.phase_of.ensures, half c.before, c.trusted_vote-d1.ensures, c.trusted_vote-d0.ensures)
 
 pub phase_spec : {M : Type 1} → statement M
 phase_spec = tie.close (tie.spec (λ c κs. search rules) (λ c κs. search rules) (λ c κs. search rules) returns)

@@ -4,4 +4,4 @@ use Rattle.level.proofs.Level.voted_zero.Statement.{statement}
 use Rattle.level.proofs.Level.voted_zero.Tie as tie
 
 pub voted_zero_spec : {M : Type 1} → statement M
-voted_zero_spec = tie.close (tie.spec (λ c κs. search rules) (λ c. rw c.wait_after.ensures))
+voted_zero_spec = tie.close (tie.spec (λ c κs. search rules) (λ c. rw c.wait_after-wait.ensures))

@@ -8,10 +8,9 @@ use Rattle.level.proofs.group.half_one.Tie as tie
 
 returns : tie.Need-returns
 returns c =
-    let start = c.before.before.before.before.before.before in
-    let f = start.args.g.f in
-    let e : (f - 1 + 1) / 2 ≡ f / 2 = omega (arith, start.requires.0.some) in
-    rw (e, start.requires.0.modulus)
+    let f = c.args.g.f in
+    let e : (f - 1 + 1) / 2 ≡ f / 2 = omega (arith, c.requires.0.some) in
+    rw (e, c.requires.0.modulus)
 
 pub half_one_spec : {M : Type 1} → statement M
 half_one_spec = tie.close (tie.spec (λ c. search rules) (λ c. search rules) (λ c. search rules) returns)

@@ -6,8 +6,7 @@ use Rattle.level.proofs.group.half_zero.Tie as tie
 
 returns : tie.Need-returns
 returns c =
-    let start = c.before.before.before in
-    rw (add-zero, start.requires.modulus)
+    rw (add-zero, c.requires.modulus)
 
 pub half_zero_spec : {M : Type 1} → statement M
 half_zero_spec = tie.close (tie.spec (λ c. search rules) (λ c. search rules) returns)

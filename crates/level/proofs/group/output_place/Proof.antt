@@ -9,5 +9,5 @@ pub output_place_spec : {M : Type 1} → statement M
 output_place_spec =
     tie.close
     (tie.spec
-    (λ c. simp (eq-eqb _ _ c.if1.true) (refl, omega arith))
-    (λ c. simp (ne_eqb _ _ c.if1.false) (refl, omega arith)))
+    (λ c. simp (eq-eqb _ _ c.if-f-eq0.true) (refl, omega arith))
+    (λ c. simp (ne_eqb _ _ c.if-f-eq0.false) (refl, omega arith)))
