@@ -59,23 +59,23 @@ pub +step_half_step_split_spec : {M : Type 1} → statement M
     (step_half_at t) step_half.Post
     (λ c κs. let start = c.before.before.before.before.before.before in (halves_asked start.requires.1.0).0)
     (λ c κs. let start = c.before.before.before.before.before.before.before.before in
-    let h = half_smaller 0 start.requires.1.0.split (omega arith) c.before.half_zero.ensures in
+    let h = half_smaller 0 start.requires.1.0.split (omega arith) c.half_zero.ensures in
     record { fits = h.fits; none = omega arith; place = omega (arith, start.requires.1.1) })
     (λ c κs. let start = c.before.before.before.before.before.before in (halves_asked start.requires.1.0).0)
     (λ c κs. let start = c.before.before.before.before.before.before.before.before in
-    let h = half_smaller 0 start.requires.1.0.split (omega arith) c.before.half-zero2.ensures in (
+    let h = half_smaller 0 start.requires.1.0.split (omega arith) c.half_zero-else-g-le2.ensures in (
       omega (arith, start.requires.0),
       record { split = record { fits = h.fits; some = omega arith }; member = omega arith; words = omega (arith, start.requires.1.1) },
     ))
     (λ c κs. let start = c.before.before.before.before.before.before in
     ((halves_asked start.requires.1.0).1, split_cards start.requires.1.0.split))
     (λ c κs. let start = c.before.before.before.before.before.before.before.before in
-    let h = half_smaller 1 start.requires.1.0.split (omega arith) c.before.half_one.ensures in
+    let h = half_smaller 1 start.requires.1.0.split (omega arith) c.half_one.ensures in
     record { fits = h.fits; none = omega arith; place = omega (arith, start.requires.1.1) })
     (λ c κs. let start = c.before.before.before.before.before.before in
     ((halves_asked start.requires.1.0).1, split_cards start.requires.1.0.split))
     (λ c κs. let start = c.before.before.before.before.before.before.before.before in
-    let h = half_smaller 1 start.requires.1.0.split (omega arith) c.before.half-one2.ensures in (
+    let h = half_smaller 1 start.requires.1.0.split (omega arith) c.half_one-else-g-le1.ensures in (
       omega (arith, start.requires.0),
       record {
         split = record { fits = h.fits; some = omega arith };
@@ -83,34 +83,34 @@ pub +step_half_step_split_spec : {M : Type 1} → statement M
         words = omega (arith, start.requires.1.1);
       },
     ))
-    (λ c. c.before.before.step_leaf.auto.1.1.0)
+    (λ c. c.step_leaf.auto.out)
     (λ c. let h = c.before.before.before.before in
     let first = h.before.before.before in
     let start = first.before.before.before.before in
     let a = start.args in
     half_is a.recs.now 0 a.card a.card a.out.now _ start.requires.1.0.split (omega arith) h.half_zero.ensures
-    (simp (lt-ltb _ _ first.if1.true)) (omega arith) (c.before.before.step_leaf.ensures a.card))
-    (λ c. c.before.before.step_split.auto.1.1.1.0)
+    (simp (lt-ltb _ _ first.if-card-half.true)) (omega arith) (c.step_leaf.ensures a.card))
+    (λ c. c.step_split.auto.out)
     (λ c. let h = c.before.before.before.before in
     let first = h.before.before.before in
     let start = first.before.before.before.before in
     let a = start.args in
-    half_is a.recs.now 0 a.card a.card a.out.now _ start.requires.1.0.split (omega arith) h.half-zero2.ensures
-    (simp (lt-ltb _ _ first.if1.true)) (omega arith) c.before.before.step_split.ensures)
-    (λ c. c.before.before.step-leaf2.auto.1.1.0)
+    half_is a.recs.now 0 a.card a.card a.out.now _ start.requires.1.0.split (omega arith) h.half_zero-else-g-le2.ensures
+    (simp (lt-ltb _ _ first.if-card-half.true)) (omega arith) c.step_split.ensures)
+    (λ c. c.step_leaf-then-g-le1.auto.out)
     (λ c. let h = c.before.before.before.before in
     let second = h.before.before.before in
     let start = second.before.before.before.before in
     let a = start.args in
     half_is a.recs.now 1 a.card _ a.out.now _ start.requires.1.0.split (omega arith) h.half_one.ensures
-    (simp (le-ltb _ _ second.if1.false)) refl (c.before.before.step-leaf2.ensures _))
-    (λ c. c.before.before.step-split2.auto.1.1.1.0)
+    (simp (le-ltb _ _ second.if-card-half.false)) refl (c.step_leaf-then-g-le1.ensures _))
+    (λ c. c.step_split-else-g-le1.auto.out)
     (λ c. let h = c.before.before.before.before in
     let second = h.before.before.before in
     let start = second.before.before.before.before in
     let a = start.args in
-    half_is a.recs.now 1 a.card _ a.out.now _ start.requires.1.0.split (omega arith) h.half-one2.ensures
-    (simp (le-ltb _ _ second.if1.false)) refl c.before.before.step-split2.ensures))
+    half_is a.recs.now 1 a.card _ a.out.now _ start.requires.1.0.split (omega arith) h.half_one-else-g-le1.ensures
+    (simp (le-ltb _ _ second.if-card-half.false)) refl c.step_split-else-g-le1.ensures))
     (λ t. step_split_lts.spec (
       row_of_reads.Asked,
       row_of_reads.Learnt,
@@ -122,9 +122,9 @@ pub +step_half_step_split_spec : {M : Type 1} → statement M
       step_half.Post,
     )
     (step_split_at t) step_split.Post
-    (λ c κs. c.before.before.requires.1.split.fits.broken)
+    (λ c κs. c.requires.1.split.fits.broken)
     (λ c κs. let start = c.before.before.before.before in
-    record { split = start.requires.1.split; member = start.requires.1.member; row_is = c.before.row_of.ensures })
+    record { split = start.requires.1.split; member = start.requires.1.member; row_is = c.row_of-row.ensures })
     (λ c κs. let start = c.before.before.before.before.before in
     omega (arith, start.requires.1.words, eight_words start.args.g.f start.requires.1.split.some))
     (λ c κs. let put = c.before.before.before in
@@ -132,17 +132,17 @@ pub +step_half_step_split_spec : {M : Type 1} → statement M
     let start = r.before.before.before in (
       omega (arith, start.requires.0),
       (
-        record { split = start.requires.1.split; member = start.requires.1.member; row_is = r.row_of.ensures },
-        omega (arith, start.requires.1.words, put.put_level.auto.0),
+        record { split = start.requires.1.split; member = start.requires.1.member; row_is = r.row_of-row.ensures },
+        omega (arith, start.requires.1.words, put.put_level.auto.out),
       ),
     ))
     (λ c. let put = c.before.before.before.before.before.before in
-    c.before.before.step_half.auto.1.1.1.1.0 ∙ put.put_level.auto.0)
+    c.step_half.auto.out ∙ put.put_level.auto.out)
     (λ c. let put = c.before.before.before.before.before.before in
     let l = put.before in
     let start = l.before.before.before.before.before in
     let a = start.args in
     let g = a.g in
-    node_is g.n g.f g.c (heard_by a.recs.now g) a.card g.base a.out.now put.put_level.new.0
+    node_is g.n g.f g.c (heard_by a.recs.now g) a.card g.base a.out.now put.put_level.new.out
     _ l.next_level.result start.requires.1.split.some l.next_level.ensures put.put_level.ensures
-    c.before.before.step_half.ensures))
+    c.step_half.ensures))

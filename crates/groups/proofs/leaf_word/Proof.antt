@@ -8,18 +8,17 @@ use Rattle.level.proofs.Places.{base_within}
 use Rattle.groups.proofs.leaf_word.Statement.{statement}
 use Rattle.groups.proofs.leaf_word.Tie as tie
 
-said_requires : tie.Need-said-requires
-said_requires c κs = let t = c.before.before.requires in rw c.column.ensures (base_within t, omega (arith, t.few))
+said_requires : tie.Need-said-word-requires
+said_requires c κs = let t = c.requires in rw c.column.ensures (base_within t, omega (arith, t.few))
 
 returns : tie.Need-returns
 unfolding leaf_next
 returns c =
-    let said = c.before.before.before in
     rw (
-      c.before.count_or_0.ensures,
-      c.before.before.read_vote.ensures,
-      said.said.ensures,
-      said.before.column.ensures,
+      c.count_or_0-x.ensures,
+      c.read_vote.ensures,
+      c.said-word.ensures,
+      c.column.ensures,
     )
 
 pub leaf_word_spec : {M : Type 1} → statement M
@@ -33,6 +32,5 @@ leaf_word_spec =
     (λ c. search rules)
     (λ c. search rules)
     (λ c. search rules)
-    (λ c. let start = c.before.before.before.before.before.before in
-    omega (arith, mod-lt (c.before.count_or_0.result + 1) {m = start.args.g.c} (omega (arith, start.requires.two)), start.requires.modulus))
+    (λ c. omega (arith, mod-lt (c.count_or_0-x.result + 1) {m = c.args.g.c} (omega (arith, c.requires.two)), c.requires.modulus))
     returns)

@@ -8,11 +8,11 @@ step_group_spec =
     tie.close
     (tie.spec
     (λ c κs. let start = c.before.before.before.before.before in
-    record { fits = start.requires.fits; none = c.before.if1.true; place = omega (arith, start.requires.words) })
+    record { fits = start.requires.fits; none = c.if-g-eq0.true; place = omega (arith, start.requires.words) })
     (λ c κs. let start = c.before.before.before.before.before in
     record { split = record { fits = start.requires.fits; some = omega arith }; member = start.requires.member; words = start.requires.words })
-    (λ c. c.before.before.step_leaf.auto.1.1.0)
+    (λ c. c.step_leaf.auto.out)
     (λ c. let start = c.before.before.before.before.before.before.before.before in
-    c.before.before.step_leaf.ensures start.args.card)
-    (λ c. c.before.before.step_split.auto.1.1.1.0)
-    (λ c. c.before.before.step_split.ensures))
+    c.step_leaf.ensures start.args.card)
+    (λ c. c.step_split.auto.out)
+    (λ c. c.step_split.ensures))

@@ -7,10 +7,9 @@ use Rattle.groups.proofs.step_leaf.Tie as tie
 
 returns : tie.Need-returns
 returns c =
-    let start = c.before.before.before in
-    let g = start.args.g in
-    λ card. leaf_is g.n g.f g.c (heard_by start.args.recs.now g) card g.base start.args.out.now c.leaf_word.result
-    start.requires.none c.leaf_word.ensures
+    let g = c.args.g in
+    λ card. leaf_is g.n g.f g.c (heard_by c.args.recs.now g) card g.base c.args.out.now c.leaf_word.result
+    c.requires.none c.leaf_word.ensures
 
 pub step_leaf_spec : {M : Type 1} → statement M
 step_leaf_spec =
