@@ -9,15 +9,15 @@ use lib.Seq.{ext_get_or, get_or-set_same, get_or-set_other}
 use Rattle.card.proofs.clear.Statement.{statement}
 use Rattle.card.proofs.clear.Tie as tie
 
-abbrev invariant-loop : tie.invariant-loop
+abbrev invariant-loop : tie.invariant-loop-j
 invariant-loop out₀ j₀ out j = (j ≤ length out) × (length out ≡ length out₀) × ((i : ℕ) → i < j → get_or out i 0 ≡ 0)
 
-abbrev decreases-loop : tie.decreases-loop
+abbrev decreases-loop : tie.decreases-loop-j
 decreases-loop out₀ j₀ out j = length out - j
 
-loop_again : tie.Need-loop-preserved invariant-loop decreases-loop
+loop_again : tie.Need-loop-j-preserved invariant-loop decreases-loop
 loop_again c =
-    let l = c.before.loop in (
+    let l = c.loop-j in (
       simp length-set (omega arith),
       simp length-set l.invariant.1,
       below_more (λ (i : ℕ). get_or (set l.out l.j 0) i 0 ≡ 0) l.j
@@ -26,8 +26,8 @@ loop_again c =
 
 returns : tie.Need-returns invariant-loop decreases-loop
 returns c =
-    let l = c.before.loop in
-    let n = length c.before.before.args.out.now in
+    let l = c.loop-j in
+    let n = length c.args.out.now in
     ext_get_or 0 l.out (replicate n 0) (omega (arith, l.invariant.1, length-replicate {A = ℕ} n 0))
     (λ i k. l.invariant.2 i (omega arith) ∙ sym (get_or-replicate n i 0 0 (omega (arith, l.invariant.1))))
 
@@ -43,5 +43,5 @@ clear_spec =
     (λ c. search rules)
     (λ c. simp length-set (omega arith))
     loop_again
-    (λ c. c.before.loop.invariant.1)
+    (λ c. c.loop-j.invariant.1)
     returns)

@@ -17,13 +17,13 @@ good c =
     let a = c.args in
     step_accepted a.n a.f a.c a.card (length a.records.now) (length a.out.now) c.requires.0
 
-step_group_requires : tie.Need-step-group-requires
+step_group_requires : tie.Need-step_group-requires
 step_group_requires c κs =
     let s = c.before.before.before.before in
     let a = s.args in
     let g = good s in
     record {
-      fits = whole_fits a.n a.f a.c a.card _ _ c.before.record_words.result g c.before.record_words.ensures;
+      fits = whole_fits a.n a.f a.c a.card _ _ c.record_words.result g c.record_words.ensures;
       member = g.card_below;
       words = omega (arith, g.out_whole);
     }
@@ -34,11 +34,11 @@ returns c =
     let p = c.before.before.before in
     let s = p.before.before.before.before in
     let a = s.args in
-    let w = p.before.record_words in
+    let w = p.record_words in
     rw s.requires.0
     (record_is a.n a.f a.c a.card w.result a.records.now a.out.now _
     w.ensures (s.requires.1 ∙ rw ((good s).out_whole, w.ensures))
-    (c.before.before.step_group.ensures (suc a.f) (omega arith)))
+    (c.step_group.ensures (suc a.f) (omega arith)))
 
 pub put_next_spec : {M : Type 1} → statement M
 put_next_spec =

@@ -14,33 +14,30 @@ use Rattle.rules.proofs.Shapes.{shown_accepted}
 use Rattle.card.proofs.shown_count.Statement.{statement}
 use Rattle.card.proofs.shown_count.Tie as tie
 
-refused : tie.Need-returns
+refused : tie.Need-returns-then-refusal-ne0
 unfolding shown_answer word_of
 refused c =
-    let none = ne_eqb _ _ c.if1.true in
+    let none = ne_eqb _ _ c.if-refusal-ne0.true in
     record {
-      refusal = c.before.shown_refusal.ensures;
-      number = rw (← c.before.shown_refusal.ensures, none);
+      refusal = c.shown_refusal-refusal.ensures;
+      number = rw (← c.shown_refusal-refusal.ensures, none);
       told = sym (read_count none_word 0 (omega arith));
     }
 
-inside : tie.Need-shared-slice-read-read-vote
+inside : tie.Need-bounds-words-at
 inside c =
-    let e = c.before.before in
-    let a = e.before.before.before.args in
-    let whole = shown_accepted a.n a.f a.c (length a.words.now) (sym e.before.shown_refusal.ensures ∙ e.if1.false) in
-    omega (arith, c.before.output_place.ensures.0, output_inside a.f)
+    let a = c.args in
+    let whole = shown_accepted a.n a.f a.c (length a.words.now) (sym c.shown_refusal-refusal.ensures ∙ c.if-refusal-ne0.false) in
+    omega (arith, c.output_place-at.ensures.0, output_inside a.f)
 
-answered : tie.Need-returns-2
+answered : tie.Need-returns
 unfolding shown_answer shown_count
 answered c =
-    let o = c.before.before in
-    let e = o.before in
-    let a = e.before.before.before.args in
-    let good = sym e.before.shown_refusal.ensures ∙ e.if1.false in
+    let a = c.args in
+    let good = sym c.shown_refusal-refusal.ensures ∙ c.if-refusal-ne0.false in
     record {
-      refusal = sym e.if1.false ∙ e.before.shown_refusal.ensures;
-      number = rw (good, c.read_vote.ensures, o.output_place.ensures.0);
+      refusal = sym c.if-refusal-ne0.false ∙ c.shown_refusal-refusal.ensures;
+      number = rw (good, c.read_vote.ensures, c.output_place-at.ensures.0);
       told = rw c.read_vote.ensures (sym (read_again a.c _ (shown_accepted a.n a.f a.c (length a.words.now) good).1));
     }
 

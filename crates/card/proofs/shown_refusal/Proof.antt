@@ -9,27 +9,22 @@ use Rattle.rules.proofs.Shapes.{counter_refused, counter_passed}
 use Rattle.card.proofs.shown_refusal.Statement.{statement}
 use Rattle.card.proofs.shown_refusal.Tie as tie
 
--- what is tested after 3
-abbrev rest : tie.Start → ℕ → ℕ
-rest s w = given 5 (wrong s.args.words w) 0
-
-refused : tie.Need-returns
+refused : tie.Need-returns-then-refusal-ne0
 refused c =
-    let s = c.before.before in
-    let a = s.args in
-    counter_refused a.n a.f a.c (rest s (record_words a.f)) _ c.before.counter_refusal.ensures c.if1.true
+    let a = c.args in
+    counter_refused a.n a.f a.c ((λ (w : ℕ). given 5 (wrong c.args.words w) 0) (record_words a.f)) _ c.counter_refusal-refusal.ensures c.if-refusal-ne0.true
 
 -- refusals 1 to 3 are not given
-later : (c : tie.After-record-words)
+later : (c : tie.After-record_words)
     → let s = c.before.before.before in
     let a = s.args in
-    shown_refusal a.n a.f a.c a.words ≡ rest s c.record_words.result
+    shown_refusal a.n a.f a.c a.words ≡ (λ (w : ℕ). given 5 (wrong c.args.words w) 0) c.record_words.result
 later c =
     let t = c.before.before in
     let s = t.before in
     let a = s.args in
     rw c.record_words.ensures
-    (counter_passed a.n a.f a.c (rest s (record_words a.f)) _ t.counter_refusal.ensures c.before.if1.false)
+    (counter_passed a.n a.f a.c ((λ (w : ℕ). given 5 (wrong c.args.words w) 0) (record_words a.f)) _ t.counter_refusal-refusal.ensures c.if-refusal-ne0.false)
 
 pub shown_refusal_spec : {M : Type 1} → statement M
 shown_refusal_spec =
@@ -39,5 +34,5 @@ shown_refusal_spec =
     refused
     (λ c κs. search rules)
     (λ c. search rules)
-    (λ c. sym (later c.before ∙ rw (ne_eqb _ _ c.if2.true)))
-    (λ c. sym (later c.before ∙ rw (eq-eqb _ _ c.if2.false))))
+    (λ c. sym (later c.before ∙ rw (ne_eqb _ _ c.if-words-record_words.true)))
+    (λ c. sym (later c.before ∙ rw (eq-eqb _ _ c.if-words-record_words.false))))

@@ -17,35 +17,35 @@ refusal s =
     let a = s.args in
     step_refusal a.n a.f a.c a.card (length a.records.now) (length a.out.now)
 
-tested : (c : tie.After-step-refusal) → c.step_refusal.result ≡ refusal c.before.before.before
+tested : (c : tie.After-step_refusal-refusal) → c.step_refusal-refusal.result ≡ refusal c.before.before.before
 tested c =
-    let a = c.before.before.before.args in
-    c.step_refusal.ensures ∙ in_words a.n a.f a.c a.card _ _
+    let a = c.args in
+    c.step_refusal-refusal.ensures ∙ in_words a.n a.f a.c a.card _ _
 
-refused : tie.Need-returns
+refused : tie.Need-returns-then-refusal-ne0
 unfolding step_out
-refused c = rw (← (tested c.before), ne_eqb _ _ c.if1.true) (refl, refl)
+refused c = rw (← (tested c.before), ne_eqb _ _ c.if-refusal-ne0.true) (refl, refl)
 
 -- nothing is refused
-good : (c : tie.Else1) → refusal c.before.before.before.before ≡ 0
-good c = sym (tested c.before) ∙ c.if1.false
+good : (c : tie.Else-refusal-ne0) → refusal c.before.before.before.before ≡ 0
+good c = sym (tested c.before) ∙ c.if-refusal-ne0.false
 
-put_next_requires : tie.Need-put-next-requires
+put_next_requires : tie.Need-put_next-requires
 put_next_requires c κs =
     let k = c.before.before.before in
     let e = k.before.before in
-    let a = e.before.before.before.before.args in
-    let same : length k.clear.new.0 ≡ length a.out.now = omega (arith, k.clear.auto.0) in
+    let a = e.args in
+    let same : length k.clear.new.out ≡ length a.out.now = omega (arith, k.clear.auto.out) in
     (rw same (good e), k.clear.ensures ∙ rw same)
 
-stepped : tie.Need-returns-2
+stepped : tie.Need-returns
 unfolding step_out
 stepped c =
     let k = c.before.before.before.before.before.before in
     let e = k.before.before in
-    let a = e.before.before.before.before.args in
-    let same : length k.clear.new.0 ≡ length a.out.now = omega (arith, k.clear.auto.0) in
-    (sym (good e), c.before.before.put_next.ensures ∙ rw (same, good e))
+    let a = e.args in
+    let same : length k.clear.new.out ≡ length a.out.now = omega (arith, k.clear.auto.out) in
+    (sym (good e), c.put_next.ensures ∙ rw (same, good e))
 
 pub step_spec : {M : Type 1} → statement M
 step_spec =

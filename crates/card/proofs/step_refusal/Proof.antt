@@ -22,21 +22,21 @@ rest s w =
     (given 5 (wrong a.records (a.units * (a.n * w)))
     (given 6 (wrong a.out (a.units * w)) 0))
 
-refused : tie.Need-returns
+refused : tie.Need-returns-then-refusal-ne0
 refused c =
     let s = c.before.before in
     let a = s.args in
-    counter_refused a.n a.f a.c (rest s (record_words a.f)) _ c.before.counter_refusal.ensures c.if1.true
+    counter_refused a.n a.f a.c (rest s (record_words a.f)) _ c.counter_refusal-refusal.ensures c.if-refusal-ne0.true
 
 -- refusals 1 to 3 are not given
-later : (c : tie.Else1)
+later : (c : tie.Else-refusal-ne0)
     → let s = c.before.before in
     let a = s.args in
     refusal_in a.units a.n a.f a.c a.card a.records a.out ≡ rest s (record_words a.f)
 later c =
     let s = c.before.before in
     let a = s.args in
-    counter_passed a.n a.f a.c (rest s (record_words a.f)) _ c.before.counter_refusal.ensures c.if1.false
+    counter_passed a.n a.f a.c (rest s (record_words a.f)) _ c.counter_refusal-refusal.ensures c.if-refusal-ne0.false
 
 -- a table of records is small, and so is a record, in any units
 record Small (units n w : ℕ) : Type 0 where
@@ -44,16 +44,15 @@ record Small (units n w : ℕ) : Type 0 where
   pub table_units : units * (n * w) ≤ 255 * 400
   pub record_units : units * w ≤ 255 * 25
 
-small : (c : tie.After-record-words)
-    → let a = c.before.before.before.before.args in
-    Small a.units a.n c.record_words.result
+small : (c : tie.After-record_words-w)
+    → let a = c.args in
+    Small a.units a.n c.record_words-w.result
 small c =
-    let p = c.before.before in
-    let a = p.before.before.args in
-    let s = counter_shape a.n a.f a.c (sym p.before.counter_refusal.ensures ∙ p.if1.false) in
+    let a = c.args in
+    let s = counter_shape a.n a.f a.c (sym c.counter_refusal-refusal.ensures ∙ c.if-refusal-ne0.false) in
     let table = table_most a.n a.f s.cards s.broken in
     let units : a.units ≤ 255 = omega arith in
-    rw c.record_words.ensures
+    rw c.record_words-w.ensures
     (record { table = table; table_units = mul-le-mul units table; record_units = mul-le-mul units (words_most a.f s.broken) })
 
 pub step_refusal_spec : {M : Type 1} → statement M
@@ -62,21 +61,21 @@ step_refusal_spec =
     (tie.spec
     (λ c κs. search rules)
     refused
-    (λ c. sym (later c.before ∙ rw (le-leb _ _ c.if2.true)))
+    (λ c. sym (later c.before ∙ rw (le-leb _ _ c.if-n-card.true)))
     (λ c κs. search rules)
     (λ c. omega (arith, (small c).table))
     (λ c. omega (arith, (small c).table_units))
     (λ c. omega (arith, (small c).table_units))
     (λ c. let w = c.before in
     let p = w.before in
-    sym (later p.before ∙ rw (← w.record_words.ensures, lt-leb _ _ p.if2.false, ne_eqb _ _ c.if3.true)))
+    sym (later p.before ∙ rw (← w.record_words-w.ensures, lt-leb _ _ p.if-n-card.false, ne_eqb _ _ c.if-records-units.true)))
     (λ c. omega (arith, (small c.before).record_units))
     (λ c. omega (arith, (small c.before).record_units))
     (λ c. let w = c.before.before in
     let p = w.before in
     sym (later p.before
-    ∙ rw (← w.record_words.ensures, lt-leb _ _ p.if2.false, eq-eqb _ _ c.before.if3.false, ne_eqb _ _ c.if4.true)))
+    ∙ rw (← w.record_words-w.ensures, lt-leb _ _ p.if-n-card.false, eq-eqb _ _ c.if-records-units.false, ne_eqb _ _ c.if-out-units.true)))
     (λ c. let w = c.before.before in
     let p = w.before in
     sym (later p.before
-    ∙ rw (← w.record_words.ensures, lt-leb _ _ p.if2.false, eq-eqb _ _ c.before.if3.false, eq-eqb _ _ c.if4.false))))
+    ∙ rw (← w.record_words-w.ensures, lt-leb _ _ p.if-n-card.false, eq-eqb _ _ c.if-records-units.false, eq-eqb _ _ c.if-out-units.false))))

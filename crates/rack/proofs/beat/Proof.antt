@@ -13,30 +13,28 @@ use Rattle.rules.proofs.Shapes.{beat_accepted}
 use Rattle.rack.proofs.beat.Statement.{statement}
 use Rattle.rack.proofs.beat.Tie as tie
 
-refused : tie.Need-returns
+refused : tie.Need-returns-then-refusal-ne0
 unfolding beat_out
-refused c = rw (← c.before.beat_refusal.ensures, ne_eqb _ _ c.if1.true) (refl, refl)
+refused c = rw (← c.beat_refusal-refusal.ensures, ne_eqb _ _ c.if-refusal-ne0.true) (refl, refl)
 
-passed : (c : tie.Else1)
-    → let a = c.before.before.before.before.before.args in
+passed : (c : tie.Else-refusal-ne0)
+    → let a = c.args in
     beat_refusal a.n a.f a.c a.broken (length a.held.now) (length a.sent.now) (length a.out.now) ≡ 0
-passed c = sym c.before.beat_refusal.ensures ∙ c.if1.false
+passed c = sym c.beat_refusal-refusal.ensures ∙ c.if-refusal-ne0.false
 
 -- the table of a receiver has room
-room : (c : tie.Else1)
-    → let a = c.before.before.before.before.before.args in
+room : (c : tie.Else-refusal-ne0)
+    → let a = c.args in
     length a.held.now ≤ 400
 room c =
-    let a = c.before.before.before.before.before.args in
+    let a = c.args in
     let g = beat_accepted a.n a.f a.c a.broken _ _ _ (passed c) in
     omega (arith, g.held_whole, table_most a.n a.f g.shape.cards g.shape.broken)
 
-done : tie.Need-returns-2
+done : tie.Need-returns
 unfolding beat_out
 done c =
-    let p = c.before.before.before in
-    let e = p.before.before.before in
-    rw (← e.before.beat_refusal.ensures, eq-eqb _ _ e.if1.false) (sym e.if1.false, p.put_table.ensures)
+    rw (← c.beat_refusal-refusal.ensures, eq-eqb _ _ c.if-refusal-ne0.false) (sym c.if-refusal-ne0.false, c.put_table.ensures)
 
 pub beat_spec : {M : Type 1} → statement M
 beat_spec =

@@ -33,61 +33,61 @@ refusal s =
     let a = s.args in
     beat_refusal a.n a.f a.c a.set a.held a.sent a.out
 
-refused : tie.Need-returns
+refused : tie.Need-returns-then-refusal-ne0
 refused c =
     let s = c.before.before in
     let a = s.args in
-    counter_refused a.n a.f a.c (rest s) _ c.before.counter_refusal.ensures c.if1.true
+    counter_refused a.n a.f a.c (rest s) _ c.counter_refusal-refusal.ensures c.if-refusal-ne0.true
 
 -- refusals 1 to 3 are not given
-later : (c : tie.Else1) → let s = c.before.before in refusal s ≡ rest s
+later : (c : tie.Else-refusal-ne0) → let s = c.before.before in refusal s ≡ rest s
 later c =
     let s = c.before.before in
     let a = s.args in
-    counter_passed a.n a.f a.c (rest s) _ c.before.counter_refusal.ensures c.if1.false
+    counter_passed a.n a.f a.c (rest s) _ c.counter_refusal-refusal.ensures c.if-refusal-ne0.false
 
-shape : (c : tie.Else1) → let a = c.before.before.args in Shape a.n a.f
+shape : (c : tie.Else-refusal-ne0) → let a = c.args in Shape a.n a.f
 shape c =
-    let a = c.before.before.args in
-    counter_shape a.n a.f a.c (sym c.before.counter_refusal.ensures ∙ c.if1.false)
+    let a = c.args in
+    counter_shape a.n a.f a.c (sym c.counter_refusal-refusal.ensures ∙ c.if-refusal-ne0.false)
 
 -- the products are small
-table_small : (c : tie.After-record-words)
+table_small : (c : tie.After-record_words-w)
     → let e = c.before.before.before in
-    e.before.before.args.n * c.record_words.result ≤ 400
+    e.args.n * c.record_words-w.result ≤ 400
 table_small c =
     let e = c.before.before.before in
     let s = shape e in
-    rw c.record_words.ensures (table_most e.before.before.args.n e.before.before.args.f s.cards s.broken)
+    rw c.record_words-w.ensures (table_most e.args.n e.args.f s.cards s.broken)
 
-sent_small : (c : tie.After-broken-below)
+sent_small : (c : tie.After-broken_below)
     → let w = c.before.before in
-    let n = w.before.before.before.before.before.args.n in
-    (n * c.broken_below.result ≤ 256) × (n * c.broken_below.result * w.record_words.result ≤ 6400)
+    let n = w.args.n in
+    (n * c.broken_below.result ≤ 256) × (n * c.broken_below.result * w.record_words-w.result ≤ 6400)
 sent_small c =
     let w = c.before.before in
     let e = w.before.before.before in
-    let a = e.before.before.args in
+    let a = e.args in
     let s = shape e in
     sent_most a.n _ _ s.cards
     (rw c.broken_below.ensures (omega (arith, broken_most a.set a.n, s.cards)))
-    (rw w.record_words.ensures (words_most a.f s.broken))
+    (rw w.record_words-w.ensures (words_most a.f s.broken))
 
 -- refusals 7 and 5 are not given either
-sent_next : (c : tie.After-broken-below)
+sent_next : (c : tie.After-broken_below)
     → let w = c.before.before in
     let s = w.before.before.before.before.before in
-    refusal s ≡ last s c.broken_below.result w.record_words.result
+    refusal s ≡ last s c.broken_below.result w.record_words-w.result
 sent_next c =
     let w = c.before.before in
     let p = w.before in
     later p.before.before
     ∙ rw (
-      ← p.before.set_refused.ensures,
-      p.if2.false,
+      ← p.set_refused.ensures,
+      p.if-set_refused.false,
       ← c.broken_below.ensures,
-      ← w.record_words.ensures,
-      eq-eqb _ _ c.before.if3.false,
+      ← w.record_words-w.ensures,
+      eq-eqb _ _ c.if-held-table.false,
     )
 
 pub beat_refusal_spec : {M : Type 1} → statement M
@@ -97,18 +97,18 @@ beat_refusal_spec =
     (λ c κs. search rules)
     refused
     (λ c κs. (shape c).cards)
-    (λ c. sym (later c.before.before ∙ rw (← c.before.set_refused.ensures, c.if2.true)))
+    (λ c. sym (later c.before.before ∙ rw (← c.set_refused.ensures, c.if-set_refused.true)))
     (λ c κs. search rules)
     (λ c. omega (arith, table_small c))
     (λ c. omega (arith, table_small c))
     (λ c. let w = c.before in
     let p = w.before in
     sym (later p.before.before
-    ∙ rw (← p.before.set_refused.ensures, p.if2.false, ← w.record_words.ensures, ne_eqb _ _ c.if3.true)))
+    ∙ rw (← p.set_refused.ensures, p.if-set_refused.false, ← w.record_words-w.ensures, ne_eqb _ _ c.if-held-table.true)))
     (λ c κs. let e = c.before.before.before.before in (shape e).cards)
     (λ c. omega (arith, sent_small c))
     (λ c. omega (arith, sent_small c))
     (λ c. omega (arith, sent_small c))
-    (λ c. sym (sent_next c.before ∙ rw (ne_eqb _ _ c.if4.true)))
-    (λ c. sym (sent_next c.before.before ∙ rw (eq-eqb _ _ c.before.if4.false, ne_eqb _ _ c.if5.true)))
-    (λ c. sym (sent_next c.before.before ∙ rw (eq-eqb _ _ c.before.if4.false, eq-eqb _ _ c.if5.false))))
+    (λ c. sym (sent_next c.before ∙ rw (ne_eqb _ _ c.if-sent-n.true)))
+    (λ c. sym (sent_next c.before.before ∙ rw (eq-eqb _ _ c.if-sent-n.false, ne_eqb _ _ c.if-out-table.true)))
+    (λ c. sym (sent_next c.before.before ∙ rw (eq-eqb _ _ c.if-sent-n.false, eq-eqb _ _ c.if-out-table.false))))

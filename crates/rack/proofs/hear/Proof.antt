@@ -14,12 +14,12 @@ use Rattle.rack.proofs.Hearing.{broken_heard, sound_passed}
 use Rattle.rack.proofs.hear.Statement.{statement}
 use Rattle.rack.proofs.hear.Tie as tie
 
-abbrev invariant-loop : tie.invariant-loop
+abbrev invariant-loop : tie.invariant-loop-u
 invariant-loop rack sent v heard₀ n w count k₀ u₀ heard k u =
     (u ≤ n) × (length heard ≡ length heard₀) × (k ≡ broken_below rack.set u)
     × (SoundAsHeld rack heard₀ heard) × (BrokenAsSent rack sent v u heard)
 
-abbrev decreases-loop : tie.decreases-loop
+abbrev decreases-loop : tie.decreases-loop-u
 decreases-loop rack sent v heard₀ n w count k₀ u₀ heard k u = n - u
 
 good : (c : tie.Start invariant-loop decreases-loop)
@@ -28,46 +28,46 @@ good : (c : tie.Start invariant-loop decreases-loop)
 good c = accepted c.args.rack _ _ _ c.requires.0
 
 -- what is copied lies within the words sent, and its place within the table
-sent_inside : (c : tie.Then1 invariant-loop decreases-loop)
+sent_inside : (c : tie.Then-is_broken invariant-loop decreases-loop)
     → let l = c.before.before.before in
-    let a = l.before.before.before.before.before.args in
-    SentFits (length a.sent.now) a.v l.loop.k l.before.before.record_words.result l.before.broken_below.result
+    let a = l.args in
+    SentFits (length a.sent.now) a.v l.loop-u.k l.record_words-w.result l.broken_below-count.result
 sent_inside c =
     let l = c.before.before.before in
     let s = l.before.before.before.before.before in
-    rw (l.loop.invariant.2, l.before.broken_below.ensures, l.before.before.record_words.ensures)
-    (sent_fits s.args.rack _ _ _ s.args.v l.loop.u (good s) s.requires.1 (omega arith)
-    (sym c.before.is_broken.ensures ∙ c.if1.true))
+    rw (l.loop-u.invariant.2, l.broken_below-count.ensures, l.record_words-w.ensures)
+    (sent_fits s.args.rack _ _ _ s.args.v l.loop-u.u (good s) s.requires.1 (omega arith)
+    (sym c.is_broken.ensures ∙ c.if-is_broken.true))
 
-place_inside : (c : tie.In-loop invariant-loop decreases-loop)
+place_inside : (c : tie.In-loop-u invariant-loop decreases-loop)
     → let w = c.before.before.before in
-    let table = length w.before.before.before.args.heard.now in
-    RecordFits table table c.before.loop.u w.record_words.result
+    let table = length w.args.heard.now in
+    RecordFits table table c.loop-u.u w.record_words-w.result
 place_inside c =
     let w = c.before.before.before in
     let s = w.before.before.before in
-    rw w.record_words.ensures (record_fits s.args.rack _ _ _ c.before.loop.u (good s) (omega arith))
+    rw w.record_words-w.ensures (record_fits s.args.rack _ _ _ c.loop-u.u (good s) (omega arith))
 
-loop_holds : tie.Need-loop-init invariant-loop decreases-loop
+loop_holds : tie.Need-loop-u-init invariant-loop decreases-loop
 unfolding broken_below count_below
 loop_holds c = (omega arith, refl, refl, λ u j e l. refl, λ u j l e m. absurd (omega arith))
 
-loop_again : tie.Need-loop-preserved invariant-loop decreases-loop
+loop_again : tie.Need-loop-u-preserved invariant-loop decreases-loop
 loop_again c =
     let l = c.before.before.before in
     let s = l.before.before.before.before.before in
     let a = s.args in
     let r = a.rack in
-    let u = l.loop.u in
-    let inv = l.loop.invariant in
-    let is = sym c.before.is_broken.ensures in
-    let fits : u * size r + size r ≤ length l.loop.heard = omega (arith, record_fits r _ _ _ u (good s) (omega arith), inv.1) in
+    let u = l.loop-u.u in
+    let inv = l.loop-u.invariant in
+    let is = sym c.is_broken.ensures in
+    let fits : u * size r + size r ≤ length l.loop-u.heard = omega (arith, record_fits r _ _ _ u (good s) (omega arith), inv.1) in
     ⊎_elim
     (λ w.
     let e = is ∙ w.0.taken in
-    let next = rw (l.before.before.record_words.ensures, l.before.broken_below.ensures, inv.2) at w.2.ensures in
+    let next = rw (l.record_words-w.ensures, l.broken_below-count.ensures, inv.2) at w.2.ensures in
     let h =
-    broken_heard r a.heard.now a.sent.now a.v u l.loop.heard c.if1.heard e fits (w.5 ∙ next) inv.3 inv.4 in (
+    broken_heard r a.heard.now a.sent.now a.v u l.loop-u.heard c.if-is_broken.heard e fits (w.5 ∙ next) inv.3 inv.4 in (
       omega arith,
       ap length w.5 ∙ w.2.kept.1.1.0 ∙ inv.1,
       w.6 ∙ ap (λ (k : ℕ). k + 1) inv.2 ∙ sym (one_broken r.set u e),
@@ -76,22 +76,20 @@ loop_again c =
     ))
     (λ w.
     let e = is ∙ w.0.left in
-    let kept : c.if1.heard ≡ l.loop.heard = w.1 in
+    let kept : c.if-is_broken.heard ≡ l.loop-u.heard = w.1 in
     rw kept (
       omega arith,
       inv.1,
       w.2 ∙ inv.2 ∙ sym (one_sound r.set u e),
       inv.3,
-      sound_passed r a.heard.now a.sent.now a.v u l.loop.heard e inv.4,
+      sound_passed r a.heard.now a.sent.now a.v u l.loop-u.heard e inv.4,
     ))
-    c.if1.branch
+    c.if-is_broken.branch-raw
 
 returns : tie.Need-returns invariant-loop decreases-loop
 returns c =
-    let l = c.before in
-    let s = l.before.before.before.before.before in
-    let e : l.loop.u ≡ s.args.rack.n = omega arith in
-    (l.loop.invariant.3, rw e at l.loop.invariant.4)
+    let e : c.loop-u.u ≡ c.args.rack.n = omega arith in
+    (c.loop-u.invariant.3, rw e at c.loop-u.invariant.4)
 
 pub hear_spec : {M : Type 1} → statement M
 hear_spec =
@@ -113,7 +111,7 @@ hear_spec =
     (λ c κs. let i = c.before.before.before in omega (arith, sent_inside c.before, place_inside i))
     (λ c. let l = c.before.before.before.before.before.before.before in
     let s = l.before.before.before.before.before in
-    omega (arith, broken_most s.args.rack.set l.loop.u))
+    omega (arith, broken_most s.args.rack.set l.loop-u.u))
     (λ c. omega arith)
     (λ c. omega arith)
     loop_again

@@ -17,12 +17,12 @@ good : (c : tie.Start)
     BeatOf a.rack (length a.held.now) (length a.sent.now) (length a.out.now)
 good c = accepted c.args.rack _ _ _ c.requires.accepted
 
-fits : (c : tie.After-record-words)
-    → let a = c.before.before.before.before.before.args in
-    RecordFits (length a.held.now) (length a.out.now) a.v c.record_words.result
+fits : (c : tie.After-record_words-w)
+    → let a = c.args in
+    RecordFits (length a.held.now) (length a.out.now) a.v c.record_words-w.result
 fits c =
     let s = c.before.before.before.before.before in
-    rw c.record_words.ensures (record_fits s.args.rack _ _ _ s.args.v (good s) s.requires.card_below)
+    rw c.record_words-w.ensures (record_fits s.args.rack _ _ _ s.args.v (good s) s.requires.card_below)
 
 hear_requires : tie.Need-hear-requires
 hear_requires c κs =
@@ -32,19 +32,16 @@ hear_requires c κs =
     let eo : length a.out.now ≡ length a.heard.now = omega (arith, (good s).out_whole, (good s).held_whole, s.requires.heard_whole) in
     (rw (eh, eo) at s.requires.accepted, omega (arith, s.requires.card_below))
 
-copied : tie.Need-returns
+copied : tie.Need-returns-then-is_broken
 copied c =
-    let t = c.before.before.before.before in
-    let b = t.before in
-    let s = b.before.before.before.before.before.before in
-    let a = s.args in
-    let e = sym b.is_broken.ensures ∙ t.if1.true in (
-      rw b.before.record_words.ensures at c.before.before.copy_words.ensures
+    let a = c.args in
+    let e = sym c.is_broken.ensures ∙ c.if-is_broken.true in (
+      rw c.record_words-w.ensures at c.copy_words.ensures
           ∙ ap (sets a.out.now (a.v * size a.rack)) (broken_record a.rack a.held.now a.sent.now a.v e),
-      s.requires.sound,
+      c.requires.sound,
     )
 
-stepped : tie.Need-returns-2
+stepped : tie.Need-returns-else-is_broken
 stepped c =
     let k = c.before.before in
     let h = k.before.before.before.before.before in
@@ -52,20 +49,20 @@ stepped c =
     let s = b.before.before.before.before.before.before in
     let a = s.args in
     let r = a.rack in
-    let w = b.before.record_words.result in
-    let heard = h.hear.new.1.1.1.0 in
-    let e = sym b.is_broken.ensures ∙ h.before.before.if1.false in
+    let w = b.record_words-w.result in
+    let heard = h.hear.new.heard in
+    let e = sym b.is_broken.ensures ∙ h.if-is_broken.false in
     let sound : SoundAsHeld r a.held.now heard = λ u j q m. h.hear.ensures.0 u j q m ∙ s.requires.sound u j q m in
     let mine = part a.out.now (a.v * w) w in
     let long = part_length a.out.now (a.v * w) w (fits b.before).inside in
-    let many = h.hear.auto.1.1.1.0 ∙ s.requires.heard_whole ∙ (good s).held_whole in
+    let many = h.hear.auto.heard ∙ s.requires.heard_whole ∙ (good s).held_whole in
     let is =
     k.step.ensures.1
     ∙ sound_record r a.held.now a.sent.now (length a.out.now) a.v heard mine s.requires.accepted s.requires.card_below
-    e many (long ∙ b.before.record_words.ensures) sound h.hear.ensures.1 in (
-      part_back k.step.new.1.1.1.1.1.0 a.out.now (a.v * w) w
-          (k.step.auto.1.1.1.1.1.0 ∙ long) (fits b.before).inside
-          ∙ rw b.before.record_words.ensures (ap (sets a.out.now (a.v * size r)) is),
+    e many (long ∙ b.record_words-w.ensures) sound h.hear.ensures.1 in (
+      part_back k.step.new.out a.out.now (a.v * w) w
+          (k.step.auto.out ∙ long) (fits b.before).inside
+          ∙ rw b.record_words-w.ensures (ap (sets a.out.now (a.v * size r)) is),
       sound,
     )
 

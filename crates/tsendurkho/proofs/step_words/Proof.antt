@@ -8,20 +8,15 @@ use Rattle.tsendurkho.proofs.step_words.Tie as tie
 
 returns : tie.Need-returns
 returns c =
-    let e = c.before.before in
-    let s = e.before.before.before.before.before in
-    let d = s.before.before.before.before.before in
-    e.encode.ensures ∙ rw (s.put_next.ensures, d.decode.ensures)
+    c.encode.ensures ∙ rw (c.put_next.ensures, c.decode.ensures)
 
 pub step_words_spec : {M : Type 1} → statement M
 step_words_spec =
     tie.close
     (tie.spec
     (λ c κs. search rules)
-    (λ c κs. let d = c.before.before.before.before in
-    let s = d.before.before.before.before.before.before in
-    let same : length d.decode.new.1.0 ≡ length s.args.heard.now = omega (arith, d.decode.auto.1.0) in
-    (rw same s.requires.accepted, s.requires.zeros))
+    (λ c κs. let same : length c.decode.new.words ≡ length c.args.heard.now = omega (arith, c.decode.auto.words) in
+    (rw same c.requires.accepted, c.requires.zeros))
     (λ c κs. search rules)
     (λ c. search rules)
     (λ c. search rules)

@@ -8,15 +8,15 @@ use Rattle.rules.specs.Calls.{step_bytes_out}
 use Rattle.tsendurkho.proofs.tsendurkho_step.Statement.{statement}
 use Rattle.tsendurkho.proofs.tsendurkho_step.Tie as tie
 
-refused : tie.Need-returns
+refused : tie.Need-returns-then-refusal-ne0
 unfolding step_bytes_out
-refused c = rw (← c.before.step_refusal.ensures, ne_eqb _ _ c.if1.true) (refl, refl)
+refused c = rw (← c.step_refusal-refusal.ensures, ne_eqb _ _ c.if-refusal-ne0.true) (refl, refl)
 
 -- nothing is refused
-good : (c : tie.Else1)
-    → let a = c.before.before.before.before.args in
+good : (c : tie.Else-refusal-ne0)
+    → let a = c.args in
     step_bytes_refusal a.n a.f a.c a.card (length a.records.now) (length a.out.now) ≡ 0
-good c = sym c.before.step_refusal.ensures ∙ c.if1.false
+good c = sym c.step_refusal-refusal.ensures ∙ c.if-refusal-ne0.false
 
 pub tsendurkho_step_spec : {M : Type 1} → statement M
 tsendurkho_step_spec =
@@ -25,7 +25,7 @@ tsendurkho_step_spec =
     (λ c κs. search rules)
     refused
     (λ c. search rules)
-    (λ c κs. (good c.before.before, c.before.if2.true))
+    (λ c κs. (good c.before.before, c.if-records.true))
     (λ c κs. good c.before.before)
     (λ c. search rules)
     (λ c. let k = c.before.before in (sym (good k.before.before.before), k.step_few.ensures))
