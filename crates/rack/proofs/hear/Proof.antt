@@ -64,23 +64,23 @@ loop_again c =
     let fits : u * size r + size r ≤ length l.loop-u.heard = omega (arith, record_fits r _ _ _ u (good s) (omega arith), inv.1) in
     ⊎_elim
     (λ w.
-    let e = is ∙ w.0.taken in
-    let next = rw (l.record_words-w.ensures, l.broken_below-count.ensures, inv.2) at w.2.ensures in
+    let e = is ∙ w.if-is_broken.true in
+    let next = rw (l.record_words-w.ensures, l.broken_below-count.ensures, inv.2) at w.copy_words.ensures in
     let h =
-    broken_heard r a.heard.now a.sent.now a.v u l.loop-u.heard c.if-is_broken.heard e fits (w.5 ∙ next) inv.3 inv.4 in (
+    broken_heard r a.heard.now a.sent.now a.v u l.loop-u.heard c.if-is_broken.heard e fits (w.heard-is ∙ next) inv.3 inv.4 in (
       omega arith,
-      ap length w.5 ∙ w.2.kept.1.1.0 ∙ inv.1,
-      w.6 ∙ ap (λ (k : ℕ). k + 1) inv.2 ∙ sym (one_broken r.set u e),
+      ap length w.heard-is ∙ w.copy_words.auto.to ∙ inv.1,
+      w.k-is ∙ ap (λ (k : ℕ). k + 1) inv.2 ∙ sym (one_broken r.set u e),
       h.0,
       h.1,
     ))
     (λ w.
-    let e = is ∙ w.0.left in
-    let kept : c.if-is_broken.heard ≡ l.loop-u.heard = w.1 in
+    let e = is ∙ w.if-is_broken.false in
+    let kept : c.if-is_broken.heard ≡ l.loop-u.heard = w.heard-is in
     rw kept (
       omega arith,
       inv.1,
-      w.2 ∙ inv.2 ∙ sym (one_sound r.set u e),
+      w.k-is ∙ inv.2 ∙ sym (one_sound r.set u e),
       inv.3,
       sound_passed r a.heard.now a.sent.now a.v u l.loop-u.heard e inv.4,
     ))

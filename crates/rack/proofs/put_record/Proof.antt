@@ -44,7 +44,7 @@ copied c =
 stepped : tie.Need-returns-else-is_broken
 stepped c =
     let k = c.before.before in
-    let h = k.before.before.before.before.before in
+    let h = k.before.before.before.before in
     let b = h.before.before.before in
     let s = b.before.before.before.before.before.before in
     let a = s.args in
@@ -76,11 +76,11 @@ put_record_spec =
     (λ c κs. let s = c.before.before.before.before.before in omega (arith, s.requires.card_below, (good s).shape.cards))
     (λ c κs. let w = c.before.before.before in omega (arith, fits w))
     hear_requires
-    (λ c. let w = c.before.before.before.before.before.before.before in omega (arith, fits w))
-    (λ c. let w = c.before.before.before.before.before.before.before in omega (arith, fits w))
+    (λ c. let w = c.before.before.before.before.before.before in omega (arith, fits w))
+    (λ c. let w = c.before.before.before.before.before.before in omega (arith, fits w))
     (λ c. search rules)
     (λ c. search rules)
-    (λ c. let w = c.before.before.before.before.before.before.before in omega (arith, fits w))
+    (λ c. let w = c.before.before.before.before.before.before in omega (arith, fits w))
     (λ c κs. search rules)
     (λ c. search rules)
     copied

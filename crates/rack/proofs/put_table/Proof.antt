@@ -33,7 +33,7 @@ loop_holds c =
     let a = c.args in
     let k = c.copy_words in
     let same = k.ensures ∙ copied_whole a.held.now a.heard.now c.requires.1 in
-    (omega arith, k.auto.1.1.0 ∙ c.requires.1, refl, rw same (λ u j e l. refl), rw (zero-mul (size a.rack)))
+    (omega arith, k.auto.to ∙ c.requires.1, refl, rw same (λ u j e l. refl), rw (zero-mul (size a.rack)))
 
 put_record_requires : tie.Need-put_record-requires invariant-loop decreases-loop
 put_record_requires c κs =
