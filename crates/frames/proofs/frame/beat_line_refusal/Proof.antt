@@ -15,31 +15,24 @@ use Rattle.frames.proofs.Frames.{of_frame, frame_refused, frame_passed}
 use Rattle.frames.proofs.frame.beat_line_refusal.Statement.{statement}
 use Rattle.frames.proofs.frame.beat_line_refusal.Tie as tie
 
--- is the line no frame of words, as 10 asks
-abbrev malformed : tie.Start → Bool
-malformed s = let a = s.args in not (well_formed (frame_digits (beat_words (said a.h))) a.line.now)
-
 -- what the frame alone is refused for
-framed : (c : tie.After-frame-refusal)
-    → let s = c.before.before.before in
-    c.frame_refusal.result ≡ of_frame (malformed s) (beat_of s.args.line.now) (s.args.beat + 1)
-framed c = c.frame_refusal.ensures ∙ rw c.before.beat_words.ensures
+framed : (c : tie.After-frame_refusal-refusal)
+    → c.frame_refusal-refusal.result ≡ of_frame (let a = c.args in not (well_formed (frame_digits (beat_words (said a.h))) a.line.now)) (beat_of c.args.line.now) (c.args.beat + 1)
+framed c = c.frame_refusal-refusal.ensures ∙ rw c.beat_words.ensures
 
-refused : tie.Need-returns
+refused : tie.Need-returns-then-refusal-ne0
 unfolding beat_line_refusal
 refused c =
-    let s = c.before.before.before.before in
-    let a = s.args in
-    frame_refused (malformed s) (beat_of a.line.now) (a.beat + 1) _ (framed c.before) c.if1.true
+    let a = c.args in
+    frame_refused (let a = c.args in not (well_formed (frame_digits (beat_words (said a.h))) a.line.now)) (beat_of a.line.now) (a.beat + 1) _ (framed c.before) c.if-refusal-ne0.true
 
-later : (c : tie.Else1)
-    → let a = c.before.before.before.before.args in
+later : (c : tie.Else-refusal-ne0)
+    → let a = c.args in
     beat_line_refusal (said a.h) a.beat a.line.now ≡ given 11 (not (leb (a.beat + 1) last_beat)) 0
 unfolding beat_line_refusal
 later c =
-    let s = c.before.before.before.before in
-    let a = s.args in
-    frame_passed (malformed s) (beat_of a.line.now) (a.beat + 1) _ (framed c.before) c.if1.false
+    let a = c.args in
+    frame_passed (let a = c.args in not (well_formed (frame_digits (beat_words (said a.h))) a.line.now)) (beat_of a.line.now) (a.beat + 1) _ (framed c.before) c.if-refusal-ne0.false
 
 pub beat_line_refusal_spec : {M : Type 1} → statement M
 beat_line_refusal_spec =
@@ -47,7 +40,7 @@ beat_line_refusal_spec =
     (tie.spec
     (λ c. search rules)
     (λ c κs. search rules)
-    (λ c κs. omega (arith, c.beat_words.ensures, (sent_most (said c.before.before.args.h) c.before.before.requires).2))
+    (λ c κs. omega (arith, c.beat_words.ensures, (sent_most (said c.args.h) c.requires).2))
     refused
-    (λ c. sym (later c.before ∙ rw (lt-leb _ _ c.if2.true)))
-    (λ c. sym (later c.before ∙ rw (le-leb _ _ c.if2.false))))
+    (λ c. sym (later c.before ∙ rw (lt-leb _ _ c.if-next-gt-LAST_BEAT.true)))
+    (λ c. sym (later c.before ∙ rw (le-leb _ _ c.if-next-gt-LAST_BEAT.false))))

@@ -7,20 +7,19 @@ use Rattle.frames.proofs.Headers.{good, sent_most}
 use Rattle.frames.proofs.frame.beat_words.Statement.{statement}
 use Rattle.frames.proofs.frame.beat_words.Tie as tie
 
-rows : (c : tie.After-struct-known)
+rows : (c : tie.After-struct_known-1)
     → let b = c.before in
-    b.before.args.h.n * b.broken_below.result ≤ 80
+    b.args.h.n * b.broken_below.result ≤ 80
 rows c =
     let b = c.before in
-    rw b.broken_below.ensures (sent_most (said b.before.args.h) b.before.requires).1
+    rw b.broken_below.ensures (sent_most (said b.args.h) b.requires).1
 
-small : (c : tie.After-record-words)
+small : (c : tie.After-record_words)
     → let b = c.before.before in
-    b.before.args.h.n * b.broken_below.result * c.record_words.result ≤ 2000
+    b.args.h.n * b.broken_below.result * c.record_words.result ≤ 2000
 small c =
     let b = c.before.before in
-    let s = b.before in
-    rw (b.broken_below.ensures, c.record_words.ensures) (sent_most (said s.args.h) s.requires).2
+    rw (b.broken_below.ensures, c.record_words.ensures) (sent_most (said b.args.h) b.requires).2
 
 pub beat_words_spec : {M : Type 1} → statement M
 beat_words_spec =
@@ -31,4 +30,4 @@ beat_words_spec =
     (λ c κs. search rules)
     (λ c. omega (arith, small c))
     (λ c. omega (arith, small c))
-    (λ c. rw (c.before.before.broken_below.ensures, c.record_words.ensures)))
+    (λ c. rw (c.broken_below.ensures, c.record_words.ensures)))

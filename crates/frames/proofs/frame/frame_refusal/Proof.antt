@@ -7,9 +7,9 @@ use Rattle.digits.proofs.Hexadecimal.{readable}
 use Rattle.frames.proofs.frame.frame_refusal.Statement.{statement}
 use Rattle.frames.proofs.frame.frame_refusal.Tie as tie
 
-number_at_requires : tie.Need-number-at-requires
+number_at_requires : tie.Need-number_at-requires
 number_at_requires c κs =
-    let f = sym c.before.well-formed-2.ensures ∙ not-false _ c.if1.false in
+    let f = sym c.well_formed-2.ensures ∙ not-false _ c.if-not-well_formed.false-raw in
     (readable _ _ f 0 4 (omega arith), omega arith)
 
 pub frame_refusal_spec : {M : Type 1} → statement M
@@ -19,9 +19,9 @@ frame_refusal_spec =
     (λ c. search rules)
     (λ c. search rules)
     (λ c κs. search rules)
-    (λ c. rw (← c.before.well-formed-2.ensures, c.if1.true))
+    (λ c. rw (← c.well_formed-2.ensures, c.if-not-well_formed.true-raw))
     number_at_requires
     (λ c. let e = c.before.before in
-    rw (← e.before.well-formed-2.ensures, e.if1.false, ← c.before.number_at.ensures, ne_eqb _ _ c.if2.true))
+    rw (← e.well_formed-2.ensures, e.if-not-well_formed.false-raw, ← c.number_at.ensures, ne_eqb _ _ c.if-number_at-beat.true))
     (λ c. let e = c.before.before in
-    rw (← e.before.well-formed-2.ensures, e.if1.false, ← c.before.number_at.ensures, eq-eqb _ _ c.if2.false)))
+    rw (← e.well_formed-2.ensures, e.if-not-well_formed.false-raw, ← c.number_at.ensures, eq-eqb _ _ c.if-number_at-beat.false)))

@@ -11,26 +11,23 @@ use Rattle.frames.proofs.Stores.{prefix_stored}
 use Rattle.frames.proofs.frame.read_words.Statement.{statement}
 use Rattle.frames.proofs.frame.read_words.Tie as tie
 
-whole : (c : tie.After-words-at-arg)
-    → let a = c.before.before.before.args in
+whole : (c : tie.After-words_at-arg-1)
+    → let a = c.args in
     length (take a.words a.buffer.now) ≡ a.words
 whole c =
-    let s = c.before.before.before in
-    length-take-le s.args.words s.args.buffer.now s.requires.1
+    length-take-le c.args.words c.args.buffer.now c.requires.1
 
-words_at_requires : tie.Need-words-at-requires
+words_at_requires : tie.Need-words_at-requires
 words_at_requires c κs =
-    let s = c.before.before.before in
-    readable _ _ s.requires.0 4 _ (omega (arith, whole c))
+    readable _ _ c.requires.0 4 _ (omega (arith, whole c))
 
 returns : tie.Need-returns
 returns c =
     let p = c.before.before.before in
-    let s = p.before.before.before in
-    let a = s.args in
+    let a = p.args in
     let words = words_at a.line.now 4 a.words in
-    rw (c.before.before.words_at.ensures, whole p)
-    (prefix_stored a.buffer.now words a.words (words_length a.line.now 4 a.words) s.requires.1)
+    rw (c.words_at.ensures, whole p)
+    (prefix_stored a.buffer.now words a.words (words_length a.line.now 4 a.words) p.requires.1)
 
 pub read_words_spec : {M : Type 1} → statement M
 read_words_spec =

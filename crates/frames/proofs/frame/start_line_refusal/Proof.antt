@@ -10,12 +10,12 @@ use Rattle.frames.proofs.frame.start_line_refusal.Tie as tie
 
 returns : tie.Need-returns
 unfolding start_line_refusal
-returns c = c.frame_refusal.ensures ∙ rw c.before.start_words.ensures
+returns c = c.frame_refusal.ensures ∙ rw c.start_words.ensures
 
 pub start_line_refusal_spec : {M : Type 1} → statement M
 start_line_refusal_spec =
     tie.close
     (tie.spec
     (λ c κs. search rules)
-    (λ c κs. omega (arith, c.start_words.ensures, start_most (said c.before.before.args.h) c.before.before.requires))
+    (λ c κs. omega (arith, c.start_words.ensures, start_most (said c.args.h) c.requires))
     returns)

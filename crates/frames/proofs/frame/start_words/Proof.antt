@@ -7,8 +7,8 @@ use Rattle.frames.proofs.Headers.{start_most}
 use Rattle.frames.proofs.frame.start_words.Statement.{statement}
 use Rattle.frames.proofs.frame.start_words.Tie as tie
 
-small : (c : tie.After-struct-known) → c.before.before.args.h.n * c.before.record_words.result ≤ 400
-small c = rw c.before.record_words.ensures (start_most (said c.before.before.args.h) c.before.before.requires)
+small : (c : tie.After-struct_known-1) → c.args.h.n * c.record_words.result ≤ 400
+small c = rw c.record_words.ensures (start_most (said c.args.h) c.requires)
 
 pub start_words_spec : {M : Type 1} → statement M
 start_words_spec =
@@ -17,4 +17,4 @@ start_words_spec =
     (λ c κs. search rules)
     (λ c. omega (arith, small c))
     (λ c. omega (arith, small c))
-    (λ c. rw c.before.record_words.ensures))
+    (λ c. rw c.record_words.ensures))

@@ -6,15 +6,14 @@ use Rattle.rules.specs.RunFile.{header_refusal}
 use Rattle.frames.proofs.header.header_refusal.Statement.{statement}
 use Rattle.frames.proofs.header.header_refusal.Tie as tie
 
-malformed : tie.Need-returns
+malformed : tie.Need-returns-then-not-well_formed
 unfolding header_refusal
-malformed c = rw (← c.before.well-formed-2.ensures, c.if1.true)
+malformed c = rw (← c.well_formed-2.ensures, c.if-not-well_formed.true-raw)
 
-tested : tie.Need-returns-2
+tested : tie.Need-returns
 unfolding header_refusal
 tested c =
-    let e = c.before.before in
-    rw (← e.before.well-formed-2.ensures, e.if1.false) (c.header_tests.ensures ∙ rw c.before.header_of.ensures)
+    rw (← c.well_formed-2.ensures, c.if-not-well_formed.false-raw) (c.header_tests.ensures ∙ rw c.header_of.ensures)
 
 pub header_refusal_spec : {M : Type 1} → statement M
 header_refusal_spec =
@@ -22,6 +21,6 @@ header_refusal_spec =
     (tie.spec
     (λ c κs. search rules)
     malformed
-    (λ c κs. sym c.before.well-formed-2.ensures ∙ not-false _ c.if1.false)
+    (λ c κs. sym c.well_formed-2.ensures ∙ not-false _ c.if-not-well_formed.false-raw)
     (λ c κs. search rules)
     tested)

@@ -15,15 +15,15 @@ use Rattle.frames.proofs.header.header_tests.Tie as tie
 abbrev rest : Header → ℕ
 rest h = given 7 (bad_set h.n h.f h.set) 0
 
-refused : tie.Need-returns
+refused : tie.Need-returns-then-refusal-ne0
 refused c =
-    let h = c.before.before.args.h in
-    counter_refused h.n h.f h.c (rest h) _ c.before.counter_refusal.ensures c.if1.true
+    let h = c.args.h in
+    counter_refused h.n h.f h.c (rest h) _ c.counter_refusal-refusal.ensures c.if-refusal-ne0.true
 
-later : (c : tie.Else1) → let h = c.before.before.args.h in header_tests (said h) ≡ rest h
+later : (c : tie.Else-refusal-ne0) → let h = c.args.h in header_tests (said h) ≡ rest h
 later c =
-    let h = c.before.before.args.h in
-    counter_passed h.n h.f h.c (rest h) _ c.before.counter_refusal.ensures c.if1.false
+    let h = c.args.h in
+    counter_passed h.n h.f h.c (rest h) _ c.counter_refusal-refusal.ensures c.if-refusal-ne0.false
 
 pub header_tests_spec : {M : Type 1} → statement M
 header_tests_spec =
@@ -31,7 +31,7 @@ header_tests_spec =
     (tie.spec
     (λ c κs. search rules)
     refused
-    (λ c κs. let h = c.before.before.args.h in
-    (counter_shape h.n h.f h.c (sym c.before.counter_refusal.ensures ∙ c.if1.false)).cards)
-    (λ c. sym (later c.before.before ∙ rw (← c.before.set_refused.ensures, c.if2.true)))
-    (λ c. sym (later c.before.before ∙ rw (← c.before.set_refused.ensures, c.if2.false))))
+    (λ c κs. let h = c.args.h in
+    (counter_shape h.n h.f h.c (sym c.counter_refusal-refusal.ensures ∙ c.if-refusal-ne0.false)).cards)
+    (λ c. sym (later c.before.before ∙ rw (← c.set_refused.ensures, c.if-set_refused.true)))
+    (λ c. sym (later c.before.before ∙ rw (← c.set_refused.ensures, c.if-set_refused.false))))

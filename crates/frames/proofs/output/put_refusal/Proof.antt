@@ -7,11 +7,10 @@ use Rattle.frames.proofs.output.put_refusal.Tie as tie
 
 returns : tie.Need-returns
 returns c =
-    let a = c.before.before.before.before.before.before.args in
-    let line = c.before.before in
-    let none = line.before.before in (
+    let a = c.args in
+    (
       sym (refusal_length a.number a.refusal),
-      rw (c.put-number2.ensures, line.put_number.ensures, none.put_word.ensures)
+      rw (c.put_number-2.ensures, c.put_number.ensures, c.put_word.ensures)
           (refusal_stored a.number a.refusal a.out.now),
     )
 

@@ -14,38 +14,35 @@ use Rattle.frames.proofs.output.shown_word.Statement.{statement}
 use Rattle.frames.proofs.output.shown_word.Tie as tie
 
 -- the record stands in the table, near its start
-inside : (c : tie.After-record-words)
-    → let a = c.before.before.before.before.args in
-    let end = a.v * c.record_words.result + c.record_words.result in
+inside : (c : tie.After-record_words-w)
+    → let a = c.args in
+    let end = a.v * c.record_words-w.result + c.record_words-w.result in
     (end ≤ length a.table.now) × (end ≤ 400)
 inside c =
-    let s = c.before.before.before.before in
-    let a = s.args in
-    let end = a.v * c.record_words.result + c.record_words.result in
+    let a = c.args in
+    let end = a.v * c.record_words-w.result + c.record_words-w.result in
     let row : end ≤ start_words (said a.h) =
-    rw c.record_words.ensures (row_inside a.h.n (record_words a.h.f) a.v s.requires.1) in
-    (omega (arith, s.requires.0.room), omega (arith, start_most (said a.h) s.requires.0.passes))
+    rw c.record_words-w.ensures (row_inside a.h.n (record_words a.h.f) a.v c.requires.1) in
+    (omega (arith, c.requires.0.room), omega (arith, start_most (said a.h) c.requires.0.passes))
 
-sound : tie.Need-returns-2
+sound : tie.Need-returns
 sound c =
     let w = c.before.before.before in
-    let e = w.before in
-    let s = e.before.before.before in
-    let a = s.args in
-    let size = w.record_words.result in
+    let a = w.args in
+    let size = w.record_words-w.result in
     let from = a.v * size in
     let q : from + size - from ≡ size = omega arith in
-    rw (c.word_of.ensures, c.before.shown_count.ensures.number, q)
-    (shown_sound (said a.h) a.table.now a.v size s.requires.0.passes w.record_words.ensures (inside w).0
-    (sym e.before.is_broken.ensures ∙ e.if1.false) _ refl
+    rw (c.word_of.ensures, c.shown_count-shown.ensures.number, q)
+    (shown_sound (said a.h) a.table.now a.v size w.requires.0.passes w.record_words-w.ensures (inside w).0
+    (sym w.is_broken.ensures ∙ w.if-is_broken.false) _ refl
     (length-take-le size (drop from a.table.now) (omega (arith, (inside w).0, length-drop from a.table.now))))
 
 pub shown_word_spec : {M : Type 1} → statement M
 shown_word_spec =
     tie.close
     (tie.spec
-    (λ c κs. omega (arith, (good (said c.before.args.h) c.before.requires.0.passes).shape.cards, c.before.requires.1))
-    (λ c. shown_broken _ _ _ (sym c.before.is_broken.ensures ∙ c.if1.true))
+    (λ c κs. omega (arith, (good (said c.args.h) c.requires.0.passes).shape.cards, c.requires.1))
+    (λ c. shown_broken _ _ _ (sym c.is_broken.ensures ∙ c.if-is_broken.true))
     (λ c κs. search rules)
     (λ c. search rules)
     (λ c. omega (arith, inside c))
