@@ -7,57 +7,57 @@ use Rattle.runfile.proofs.Takes.{refused_takes, tests_kept, header_takes, takes_
 use Rattle.runfile.proofs.line_taken.Statement.{statement}
 use Rattle.runfile.proofs.line_taken.Tie as tie
 
-refused : tie.Need-returns
+refused : tie.Need-returns-then-refusal-ne0
 unfolding taken_line
 refused c =
-    let a = c.before.before.before.before.args in
-    refused_takes _ _ _ _ _ _ (c.before.stage_tests.ensures ∙ sym (tests_kept a.stage a.table.now)) c.if1.true
+    let a = c.args in
+    refused_takes _ _ _ _ _ _ (c.stage_tests-refusal.ensures ∙ sym (tests_kept a.stage a.table.now)) c.if-refusal-ne0.true
 
 -- the run passes its tests
-none : (c : tie.Else1)
-    → let a = c.before.before.before.before.args in
+none : (c : tie.Else-refusal-ne0)
+    → let a = c.args in
     kept_tests a.stage ≡ 0
-none c = sym c.before.stage_tests.ensures ∙ c.if1.false
+none c = sym c.stage_tests-refusal.ensures ∙ c.if-refusal-ne0.false
 
-header : tie.Need-returns-2
+header : tie.Need-returns-in-AtHeader
 unfolding stage_of
 header c =
-    let e = c.before.before.before in
-    let a = e.before.before.before.before.args in
-    takes_as a.stage AtHeader a.table.now a.line.now a.out.now _ _ _ c.before.enum_told.given.1 (none e)
+    let e = c.before.before in
+    let a = e.args in
+    takes_as a.stage AtHeader a.table.now a.line.now a.out.now _ _ _ c.in-AtHeader.is (none e)
     (header_takes a.line.now a.table.now a.out.now _ c.take_header.ensures)
 
-start : tie.Need-returns-3
+start : tie.Need-returns-in-AtStart
 unfolding stage_of
 start c =
     let t = c.before.before in
-    let k = t.before.before.before.before in
-    let e = k.before.before in
-    let a = e.before.before.before.before.args in
-    takes_as a.stage (AtStart k.stage.given.0.0) a.table.now a.line.now a.out.now _ _ _
-    k.stage.given.1 (none e) t.take_start.ensures
+    let k = t.before.before.before in
+    let e = k.before in
+    let a = e.args in
+    takes_as a.stage (AtStart k.in-AtStart.h) a.table.now a.line.now a.out.now _ _ _
+    k.in-AtStart.is (none e) t.take_start.ensures
 
-beat : tie.Need-returns-4
+beat : tie.Need-returns-in-AtBeat
 unfolding stage_of
 beat c =
     let t = c.before.before in
-    let k = t.before.before.before.before in
-    let e = k.before.before in
-    let a = e.before.before.before.before.args in
-    let known = AtBeat k.stage2.given.0.0 k.stage2.given.0.1.0 in
-    takes_as a.stage known a.table.now a.line.now a.out.now _ _ _ k.stage2.given.1 (none e) t.take_beat.ensures
+    let k = t.before.before.before in
+    let e = k.before in
+    let a = e.args in
+    let known = AtBeat k.in-AtBeat.h k.in-AtBeat.beat in
+    takes_as a.stage known a.table.now a.line.now a.out.now _ _ _ k.in-AtBeat.is (none e) t.take_beat.ensures
 
-take_start_requires : tie.Need-take-start-requires
+take_start_requires : tie.Need-take_start-requires
 unfolding kept_tests
 take_start_requires c κs =
-    let k = c.before.before.before in
-    record { passes = rw k.stage.given.1 at (none k.before.before); room = search rules }
+    let k = c.before.before in
+    record { passes = rw k.in-AtStart.is at (none k.before); room = search rules }
 
-take_beat_requires : tie.Need-take-beat-requires
+take_beat_requires : tie.Need-take_beat-requires
 unfolding kept_tests
 take_beat_requires c κs =
-    let k = c.before.before.before in
-    record { passes = rw k.stage2.given.1 at (none k.before.before); room = search rules }
+    let k = c.before.before in
+    record { passes = rw k.in-AtBeat.is at (none k.before); room = search rules }
 
 pub line_taken_spec : {M : Type 1} → statement M
 line_taken_spec =

@@ -4,17 +4,17 @@ use Rattle.runfile.specs.Runs.{kept_tests}
 use Rattle.runfile.proofs.stage_tests.Statement.{statement}
 use Rattle.runfile.proofs.stage_tests.Tie as tie
 
-header : tie.Need-returns
+header : tie.Need-returns-in-AtHeader
 unfolding kept_tests
-header c = rw c.enum_told.given.1
+header c = rw c.in-AtHeader.is
 
-start : tie.Need-returns-2
+start : tie.Need-returns-in-AtStart
 unfolding kept_tests
-start c = rw c.before.before.stage.given.1 c.header_tests.ensures
+start c = rw c.in-AtStart.is c.header_tests.ensures
 
-beat : tie.Need-returns-3
+beat : tie.Need-returns-in-AtBeat
 unfolding kept_tests
-beat c = rw c.before.before.stage2.given.1 c.header-tests2.ensures
+beat c = rw c.in-AtBeat.is c.header_tests-in-AtBeat.ensures
 
 pub stage_tests_spec : {M : Type 1} → statement M
 stage_tests_spec =

@@ -17,51 +17,48 @@ use Rattle.runfile.proofs.Takes.{refused_takes, accepted_takes, next_length}
 use Rattle.runfile.proofs.take_beat.Statement.{statement}
 use Rattle.runfile.proofs.take_beat.Tie as tie
 
-refused : tie.Need-returns
+refused : tie.Need-returns-then-refusal-ne0
 unfolding take_line stage_of
-refused c = refused_takes _ _ _ _ _ _ c.before.beat_line_refusal.ensures c.if1.true
+refused c = refused_takes _ _ _ _ _ _ c.beat_line_refusal-refusal.ensures c.if-refusal-ne0.true
 
 -- the line is well formed, its beat is no later than the last, and the records fit the table
-good : (c : tie.Else1)
-    → let a = c.before.before.before.before.args in
+good : (c : tie.Else-refusal-ne0)
+    → let a = c.args in
     (well_formed (frame_digits (beat_words (said a.h))) a.line.now ≡ true)
     × (a.beat + 1 ≤ last_beat)
     × (start_words (said a.h) ≤ length a.table.now)
 good c =
-    let s = c.before.before.before.before in
-    let a = s.args in
-    let f = beat_formed (said a.h) a.beat a.line.now (sym c.before.beat_line_refusal.ensures ∙ c.if1.false) in
-    (f.0, f.1, omega (arith, start_most (said a.h) s.requires.passes, s.requires.room))
+    let a = c.args in
+    let f = beat_formed (said a.h) a.beat a.line.now (sym c.beat_line_refusal-refusal.ensures ∙ c.if-refusal-ne0.false) in
+    (f.0, f.1, omega (arith, start_most (said a.h) c.requires.passes, c.requires.room))
 
-next_table_requires : tie.Need-next-table-requires
+next_table_requires : tie.Need-next_table-requires
 next_table_requires c κs =
     let e = c.before in
-    let s = e.before.before.before.before in
-    (s.requires, (good e).0)
+    (e.requires, (good e).0)
 
-put_line_requires : tie.Need-put-line-requires
+put_line_requires : tie.Need-put_line-written-requires
 put_line_requires c κs =
-    let t = c.before.before.before.before in
+    let t = c.before.before.before in
     let e = t.before.before in
-    let s = e.before.before.before.before in
-    record { passes = s.requires.passes; room = omega (arith, (good e).2, t.next_table.auto.1.1.0) }
+    record { passes = e.requires.passes; room = omega (arith, (good e).2, t.next_table.auto.table) }
 
-accepted_beat : tie.Need-returns-2
+accepted_beat : tie.Need-returns
 unfolding take_line stage_of kept_of table_of
 accepted_beat c =
-    let t = c.before.before.before.before.before in
+    let t = c.before.before.before.before in
     let e = t.before.before in
-    let a = e.before.before.before.before.args in
+    let a = e.args in
     let h = said a.h in
     let table = a.table.now in
     let line = a.line.now in
     let next = a.beat + 1 in
     let records = table_next h table line in
-    let text : output_line h next t.next_table.new.1.1.0 ≡ output_line h next records =
+    let text : output_line h next t.next_table.new.table ≡ output_line h next records =
     rw t.next_table.ensures (line_of_stored h next table records (next_length h table line) (good e).2) in
-    let none = sym e.before.beat_line_refusal.ensures ∙ e.if1.false in
+    let none = sym e.beat_line_refusal-refusal.ensures ∙ e.if-refusal-ne0.false in
     accepted_takes (AtBeat a.h a.beat) (beat_line_refusal h a.beat line) (at_beat h next records) (output_line h next records)
-    table a.out.now _ _ _ none t.next_table.ensures (c.put_line.ensures.1 ∙ rw text) (c.put_line.ensures.0 ∙ ap length text)
+    table a.out.now _ _ _ none t.next_table.ensures (c.put_line-written.ensures.1 ∙ rw text) (c.put_line-written.ensures.0 ∙ ap length text)
 
 pub take_beat_spec : {M : Type 1} → statement M
 take_beat_spec =

@@ -11,22 +11,21 @@ use Rattle.runfile.specs.Runs.{kept_of, answer_of}
 use Rattle.runfile.proofs.take_header.Statement.{statement}
 use Rattle.runfile.proofs.take_header.Tie as tie
 
-refused : tie.Need-returns
+refused : tie.Need-returns-then-refusal-ne0
 unfolding take_line or_refused answer_of
-refused c = rw (← c.before.header_refusal.ensures, ne_eqb _ _ c.if1.true)
+refused c = rw (← c.header_refusal-refusal.ensures, ne_eqb _ _ c.if-refusal-ne0.true)
 
-formed : tie.Need-header-of-requires
+formed : tie.Need-header_of-h-requires
 unfolding header_refusal
 formed c κs =
-    let line = c.before.before.before.args.line.now in
-    let none = sym c.before.header_refusal.ensures ∙ c.if1.false in
+    let line = c.args.line.now in
+    let none = sym c.header_refusal-refusal.ensures ∙ c.if-refusal-ne0.false in
     not-false (well_formed 12 line) (not_given 10 (not (well_formed 12 line)) _ (omega arith) none).0
 
-accepted : tie.Need-returns-2
+accepted : tie.Need-returns
 unfolding take_line or_refused answer_of kept_of
 accepted c =
-    let e = c.before in
-    rw (← e.before.header_refusal.ensures, eq-eqb _ _ e.if1.false, c.header_of.ensures)
+    rw (← c.header_refusal-refusal.ensures, eq-eqb _ _ c.if-refusal-ne0.false, c.header_of-h.ensures)
 
 pub take_header_spec : {M : Type 1} → statement M
 take_header_spec = tie.close (tie.spec (λ c κs. search rules) refused formed accepted)
