@@ -8,32 +8,25 @@ use Rattle.feed.proofs.Calls.{feeds_reading, feeds_stopped}
 use Rattle.feed.proofs.feed_from.Statement.{statement}
 use Rattle.feed.proofs.feed_from.Tie as tie
 
-within : (c : tie.After-line-end)
-    → let start = c.before.before.before in
-    c.line_end.result ≤ length start.args.piece.now
+within : (c : tie.After-line_end-end)
+    → c.line_end-end.result ≤ length c.args.piece.now
 within c =
-    let a = c.before.before.before.args in
-    rw c.line_end.ensures (end_within a.piece.now c.before.least.result (omega (arith, c.before.least.ensures)))
+    let a = c.args in
+    rw c.line_end-end.ensures (end_within a.piece.now c.least-from.result (omega (arith, c.least-from.ensures)))
 
-stopped : tie.Need-returns
+stopped : tie.Need-returns-in-Stopped
 stopped c =
-    let n = c.before.before in
-    let e = n.before in
-    let a = e.before.before.before.args in
-    rw c.enum_told.given.1
+    let a = c.args in
+    rw c.in-Stopped.is
     (feeds_stopped a.at _ _ _ a.piece.now a.line.now a.table.now a.out.now
-    e.before.least.ensures e.line_end.ensures n.least2.ensures)
+    c.least-from.ensures c.line_end-end.ensures c.least-next.ensures)
 
-reading : tie.Need-returns-2
+reading : tie.Need-returns-in-Reading
 reading c =
-    let k = c.before.before.before.before.before in
-    let n = k.before.before in
-    let e = n.before in
-    let a = e.before.before.before.args in
-    let held = k.feed.given.0 in
-    rw k.feed.given.1
-    (feeds_reading held.0 held.1.0 a.at _ _ _ a.piece.now a.line.now a.table.now a.out.now _ _ _ _ _
-    e.before.least.ensures e.line_end.ensures n.least2.ensures c.feed_part.ensures)
+    let a = c.args in
+    rw c.in-Reading.is
+    (feeds_reading c.in-Reading.stage c.in-Reading.held a.at _ _ _ a.piece.now a.line.now a.table.now a.out.now _ _ _ _ _
+    c.least-from.ensures c.line_end-end.ensures c.least-next.ensures c.feed_part-ended.ensures)
 
 pub feed_from_spec : {M : Type 1} → statement M
 feed_from_spec =

@@ -12,61 +12,52 @@ use Rattle.feed.proofs.Calls.{fed_held, fed_ended, holds_stands}
 use Rattle.feed.proofs.feed_part.Statement.{statement}
 use Rattle.feed.proofs.feed_part.Tie as tie
 
-hold_requires : tie.Need-hold-requires
+hold_requires : tie.Need-hold-count-requires
 hold_requires c κs =
-    let start = c.before.before.before.before in
-    let part = start.requires.0 in
+    let part = c.requires.0 in
     record {
-      line_size = start.requires.1.line_size;
+      line_size = c.requires.1.line_size;
       forward = omega (arith, part.at_end_lem);
-      inside = rw part.at_end_lem (end_within start.args.piece.now start.args.from part.inside);
+      inside = rw part.at_end_lem (end_within c.args.piece.now c.args.from part.inside);
     }
 
-unfinished : tie.Need-returns
+unfinished : tie.Need-returns-then-end-piece
 unfolding machine_of
 unfinished c =
-    let k = c.before.before.before in
-    let h = k.hold in
-    let start = k.before.before.before.before.before in
-    let a = start.args in
+    let h = c.hold-count in
+    let a = c.args in
     let line = a.line.now in
     let piece = a.piece.now in
     let stage = stage_of a.stage a.table.now in
     let part = take (a.end - a.from) (drop a.from piece) in
     record {
       held_is = h.ensures.kept;
-      stands = rw (fed_held line a.held start.requires.1.line_size stage piece a.from a.end start.requires.0 c.if1.true)
+      stands = rw (fed_held line a.held c.requires.1.line_size stage piece a.from a.end c.requires.0 c.if-end-piece.true)
           (holds_stands a.stage a.held h.result line part a.table.now a.out.now _ h.ensures);
     }
 
-end_line_requires : tie.Need-end-line-requires
+end_line_requires : tie.Need-end_line-requires
 end_line_requires c κs =
-    let h = c.before.before.before.before.before.before in
-    let start = h.before.before.before.before.before in
-    let a = start.args in
+    let a = c.args in
     let part = take (a.end - a.from) (drop a.from a.piece.now) in
     let all = length-take longest (take a.held a.line.now ++ part) in
-    (omega (arith, start.requires.1.line_size, h.hold.auto.0, h.hold.ensures.count, all), start.requires.1.table_size)
+    (omega (arith, c.requires.1.line_size, c.hold-count.auto.line, c.hold-count.ensures.count, all), c.requires.1.table_size)
 
-finished : tie.Need-returns-2
+finished : tie.Need-returns
 unfolding machine_of
 finished c =
-    let t = c.before.before in
-    let e = t.before.before.before.before in
-    let k = e.before.before.before in
-    let h = k.hold in
-    let start = k.before.before.before.before.before in
-    let a = start.args in
+    let h = c.hold-count in
+    let a = c.args in
     let line = a.line.now in
     let piece = a.piece.now in
     let stage = stage_of a.stage a.table.now in
-    let part = start.requires.0 in
+    let part = c.requires.0 in
     let l = end_within piece a.from part.inside in
-    let before : a.end < length piece = omega (arith, l, part.at_end_lem, e.if1.false) in
+    let before : a.end < length piece = omega (arith, l, part.at_end_lem, c.if-end-piece.false) in
     record {
       held_is = h.ensures.kept;
-      stands = rw (fed_ended line a.held start.requires.1.line_size stage piece a.from a.end part before)
-          (rw h.ensures.whole at t.end_line.ensures);
+      stands = rw (fed_ended line a.held c.requires.1.line_size stage piece a.from a.end part before)
+          (rw h.ensures.whole at c.end_line.ensures);
     }
 
 pub feed_part_spec : {M : Type 1} → statement M

@@ -4,15 +4,14 @@ use Rattle.feed.proofs.Calls.{finishes_stopped}
 use Rattle.feed.proofs.finish.Statement.{statement}
 use Rattle.feed.proofs.finish.Tie as tie
 
-stopped : tie.Need-returns
+stopped : tie.Need-returns-in-Stopped
 stopped c =
-    let a = c.before.before.args in
-    rw c.enum_told.given.1 (finishes_stopped a.line.now a.table.now a.out.now)
+    let a = c.args in
+    rw c.in-Stopped.is (finishes_stopped a.line.now a.table.now a.out.now)
 
-reading : tie.Need-returns-2
+reading : tie.Need-returns-in-Reading
 reading c =
-    let held = c.before.before.before.before.before in
-    rw held.feed.given.1 c.finish_line.ensures
+    rw c.in-Reading.is c.finish_line.ensures
 
 pub finish_spec : {M : Type 1} → statement M
 finish_spec =

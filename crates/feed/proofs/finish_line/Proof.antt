@@ -14,72 +14,65 @@ use Rattle.feed.proofs.Calls.{held_min, finishes_none, finishes_refused, finishe
 use Rattle.feed.proofs.finish_line.Statement.{statement}
 use Rattle.feed.proofs.finish_line.Tie as tie
 
-none : tie.Need-returns
+none : tie.Need-returns-then-held-eq0
 none c =
-    let a = c.before.before.before.before.before.args in
+    let a = c.args in
     let missed = c.put_missing.ensures in
-    finishes_none a.stage a.held a.line.now a.table.now a.out.now _ _ c.before.before.if1.true
+    finishes_none a.stage a.held a.line.now a.table.now a.out.now _ _ c.if-held-eq0.true
     missed.0 missed.1
 
--- the machine after the last line
-abbrev last : tie.Start → Machine
-last start = ended (stage_of start.args.stage start.args.table.now) (take start.args.held start.args.line.now) []
-
 -- it stands so once the line is ended
-stands : (c : tie.After-end-line)
-    → let start = c.before.before.before.before.before.before.before in
-    let e = c.end_line in
-    Stands (last start) e.result.feed e.result.written start.args.table.now start.args.out.now start.args.line.now
-    e.new.1.1.1.0 e.new.1.1.1.1.0
-stands c =
-    let l = c.before.before.before in
-    let start = l.before.before.before.before in
-    rw (l.least.ensures, held_min start.args.line.now start.args.held start.requires.line_size) at c.end_line.ensures
+stands : (c : tie.After-end_line-ended)
+    → let a = c.args in
+    let e = c.end_line-ended in
+    Stands (ended (stage_of a.stage a.table.now) (take a.held a.line.now) []) e.result.feed e.result.written a.table.now a.out.now a.line.now
+    e.new.table e.new.out
+stands c = rw (c.least.ensures, held_min c.args.line.now c.args.held c.requires.line_size) at c.end_line-ended.ensures
 
 -- and it is the machine that the input leaves
-left : (start : tie.Start) → 0 < start.args.held
-    → last_fed (machine_of (Reading start.args.stage start.args.held) start.args.line.now start.args.table.now) ≡ last start
-left start l =
-    let a = start.args in
-    finished_is a.stage a.held a.line.now a.table.now start.requires.line_size l
+left : (c : tie.Start) → 0 < c.args.held
+    → last_fed (machine_of (Reading c.args.stage c.args.held) c.args.line.now c.args.table.now)
+    ≡ ended (stage_of c.args.stage c.args.table.now) (take c.args.held c.args.line.now) []
+left c l =
+    let a = c.args in
+    finished_is a.stage a.held a.line.now a.table.now c.requires.line_size l
 
-refused : tie.Need-returns-2
+refused : tie.Need-returns-in-Stopped
 refused c =
-    let t = c.before.before.before.before in
+    let t = c.before.before.before in
     let e = t.before.before.before.before in
     let start = e.before.before.before in
     let a = start.args in
     finishes_refused _ _ a.table.now a.out.now a.line.now _ _ _ _
-    (left start (omega (arith, e.if1.false))) c.enum_told.given.1 (stands t)
+    (left start (omega (arith, e.if-held-eq0.false))) c.in-Stopped.is (stands t)
 
 -- one of the two is empty
-one : (c : tie.After-last)
-    → let t = c.before.before.before.before in
-    let start = t.before.before.before.before.before.before.before in
-    (written_by (last start) ≡ []) ⊎ (missing c.last.given.0.0 ≡ [])
+one : (c : tie.In-Reading)
+    → let a = c.args in
+    (written_by (ended (stage_of a.stage a.table.now) (take a.held a.line.now) []) ≡ []) ⊎ (missing c.in-Reading.next ≡ [])
 one c =
-    let t = c.before.before.before.before in
-    one_written _ _ _ c.last.given.0.1.0 (sym (stands t).feed_is ∙ c.last.given.1)
+    let t = c.before.before.before in
+    one_written _ _ _ c.in-Reading.field-1 (sym (stands t).feed_is ∙ c.in-Reading.is)
 
-fits : tie.Need-overflow-add-result
+fits : tie.Need-overflow_add-result
 fits c =
-    let k = c.before.before.before in
-    let t = k.before.before.before.before in
+    let k = c.before.before in
+    let t = k.before.before.before in
     ⊎_elim
-    (λ p. let z : t.end_line.result.written ≡ 0 = (stands t).written_is ∙ ap length p in omega arith)
-    (λ p. let z : c.put-missing2.result ≡ 0 = c.put-missing2.ensures.0 ∙ ap length p in omega arith)
+    (λ p. let z : t.end_line-ended.result.written ≡ 0 = (stands t).written_is ∙ ap length p in omega arith)
+    (λ p. let z : c.put_missing-in-Reading.result ≡ 0 = c.put_missing-in-Reading.ensures.0 ∙ ap length p in omega arith)
     (one k)
 
-accepted : tie.Need-returns-3
+accepted : tie.Need-returns-in-Reading
 accepted c =
-    let k = c.before.before.before in
-    let t = k.before.before.before.before in
+    let k = c.before.before in
+    let t = k.before.before.before in
     let e = t.before.before.before.before in
     let start = e.before.before.before in
     let a = start.args in
-    let missed = c.put-missing2.ensures in
-    finishes_accepted _ _ a.table.now a.out.now a.line.now _ _ _ _ _ k.last.given.0.1.0 _ _
-    (left start (omega (arith, e.if1.false))) k.last.given.1 (one k) (stands t) missed.0 missed.1
+    let missed = c.put_missing-in-Reading.ensures in
+    finishes_accepted _ _ a.table.now a.out.now a.line.now _ _ _ _ _ k.in-Reading.field-1 _ _
+    (left start (omega (arith, e.if-held-eq0.false))) k.in-Reading.is (one k) (stands t) missed.0 missed.1
 
 pub finish_line_spec : {M : Type 1} → statement M
 finish_line_spec =

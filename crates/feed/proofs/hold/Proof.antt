@@ -24,19 +24,16 @@ take_both a b l = ⊎_elim
 
 returns : tie.Need-returns
 returns c =
-    let k = c.before.before in
-    let start = k.before.before.before.before.before.before in
-    let a = start.args in
-    let counted = k.before.before in
-    let already = counted.before.least in
-    let count = counted.least2 in
+    let a = c.args in
+    let already = c.least-start in
+    let count = c.least-count in
     let rest = drop a.from a.piece.now in
     let part = take (a.end - a.from) rest in
     let size : length part ≡ a.end - a.from =
     length-take-le (a.end - a.from) rest (omega (arith, length-drop a.from a.piece.now)) in
-    part_holds a.line.now a.held start.requires.line_size part _ _
+    part_holds a.line.now a.held c.requires.line_size part _ _
     (rw (size, count.ensures, already.ensures))
-    (k.keep.ensures ∙ rw (count.ensures, take_both (a.end - a.from) (longest - already.result) rest, already.ensures))
+    (c.keep.ensures ∙ rw (count.ensures, take_both (a.end - a.from) (longest - already.result) rest, already.ensures))
 
 pub hold_spec : {M : Type 1} → statement M
 hold_spec =
@@ -46,9 +43,7 @@ hold_spec =
     (λ c. search rules)
     (λ c. search rules)
     (λ c κs. search rules)
-    (λ c κs. let start = c.before.before.before.before.before in
-    omega (arith, start.requires.line_size, start.requires.inside, c.before.before.least.ensures, c.before.least2.ensures))
-    (λ c. let counted = c.before.before.before.before in
-    omega (arith, counted.before.least.ensures, counted.least2.ensures))
+    (λ c κs. omega (arith, c.requires.line_size, c.requires.inside, c.least-start.ensures, c.least-count.ensures))
+    (λ c. omega (arith, c.least-start.ensures, c.least-count.ensures))
     (λ c. search rules)
     returns)

@@ -9,26 +9,25 @@ use Rattle.runfile.proofs.Stores.{one_kept}
 use Rattle.feed.proofs.keep.Statement.{statement}
 use Rattle.feed.proofs.keep.Tie as tie
 
-abbrev invariant-loop : tie.invariant-loop
+abbrev invariant-loop : tie.invariant-loop-i
 invariant-loop line₀ held piece from count i₀ line i =
     (i ≤ count) × (length line ≡ length line₀) × (line ≡ sets line₀ held (take i (drop from piece)))
 
-abbrev decreases-loop : tie.decreases-loop
+abbrev decreases-loop : tie.decreases-loop-i
 decreases-loop line₀ held piece from count i₀ line i = count - i
 
-loop_again : tie.Need-loop-preserved invariant-loop decreases-loop
+loop_again : tie.Need-loop-i-preserved invariant-loop decreases-loop
 loop_again c =
-    let l = c.before.before in
-    let a = l.before.args in (
+    let a = c.args in (
       omega arith,
-      simp length-set l.loop.invariant.1,
-      rw l.loop.invariant.2 (one_kept a.line.now a.piece.now a.held a.from l.loop.i (omega arith)),
+      simp length-set c.loop-i.invariant.1,
+      rw c.loop-i.invariant.2 (one_kept a.line.now a.piece.now a.held a.from c.loop-i.i (omega arith)),
     )
 
 returns : tie.Need-returns invariant-loop decreases-loop
 returns c =
-    let e : c.before.loop.i ≡ c.before.before.args.count = omega arith in
-    rw e at c.before.loop.invariant.2
+    let e : c.loop-i.i ≡ c.args.count = omega arith in
+    rw e at c.loop-i.invariant.2
 
 pub keep_spec : {M : Type 1} → statement M
 keep_spec =
@@ -44,5 +43,5 @@ keep_spec =
     (λ c. omega arith)
     (λ c. omega arith)
     loop_again
-    (λ c. c.before.loop.invariant.1)
+    (λ c. c.loop-i.invariant.1)
     returns)

@@ -4,17 +4,17 @@ use Rattle.feed.specs.Calls.{number_of}
 use Rattle.feed.proofs.number_of.Statement.{statement}
 use Rattle.feed.proofs.number_of.Tie as tie
 
-header : tie.Need-returns
+header : tie.Need-returns-in-AtHeader
 unfolding number_of
-header c = rw c.enum_told.given.1
+header c = rw c.in-AtHeader.is
 
-start : tie.Need-returns-2
+start : tie.Need-returns-in-AtStart
 unfolding number_of
-start c = rw c.enum-told2.given.1
+start c = rw c.in-AtStart.is
 
-beat : tie.Need-returns-3
+beat : tie.Need-returns-in-AtBeat
 unfolding number_of
-beat c = rw c.before.stage.given.1
+beat c = rw c.in-AtBeat.is
 
 pub number_of_spec : {M : Type 1} → statement M
 number_of_spec =

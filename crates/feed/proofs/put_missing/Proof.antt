@@ -5,17 +5,17 @@ use Rattle.feed.specs.Calls.{missing}
 use Rattle.feed.proofs.put_missing.Statement.{statement}
 use Rattle.feed.proofs.put_missing.Tie as tie
 
-header : tie.Need-returns
+header : tie.Need-returns-in-AtHeader
 unfolding missing
-header c = rw c.before.before.enum_told.given.1 c.put_refusal.ensures
+header c = rw c.in-AtHeader.is c.put_refusal.ensures
 
-start : tie.Need-returns-2
+start : tie.Need-returns-in-AtStart
 unfolding missing
-start c = rw c.before.before.enum-told2.given.1 c.put-refusal2.ensures
+start c = rw c.in-AtStart.is c.put_refusal-in-AtStart.ensures
 
-beat : tie.Need-returns-3
+beat : tie.Need-returns-in-AtBeat
 unfolding missing
-beat c = rw c.enum-told3.given.1 (refl, refl)
+beat c = rw c.in-AtBeat.is (refl, refl)
 
 pub put_missing_spec : {M : Type 1} → statement M
 put_missing_spec =
