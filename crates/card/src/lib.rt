@@ -1,4 +1,6 @@
 // One card's step (RULES 5) and the count that it shows (RULES 7), with their refusals.
+#![tactic(auto)]
+
 ghost use Rattle.std.specs.Prelude.{◌≡◌, length, replicate};
 ghost use Rattle.rules.specs.Refusals.{step_refusal, shown_refusal};
 ghost use Rattle.rules.specs.Calls.{step_out};

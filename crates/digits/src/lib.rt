@@ -1,4 +1,6 @@
 // Hexadecimal digits, and the numbers that they make: "lower case, the high digit first" (RULES 10.2).
+#![tactic(auto)]
+
 ghost use Rattle.std.specs.Prelude.{◌≡◌, true, ◌&&◌, ◌+◌, ◌*◌, ◌%◌, ◌<◌, ◌≤◌, leb, length};
 ghost use Rattle.std.proofs.lemmas.List.Edits.{sets};
 ghost use Rattle.rules.specs.Text.{digit_of, is_digit, value_of, hex_of, number_at, well_formed};

@@ -1,4 +1,6 @@
 // A run file (RULES 11) in pieces, cut anywhere: the characters of an unfinished line are kept in the caller's buffer.
+#![tactic(auto)]
+
 ghost use Rattle.std.specs.Prelude.{◌≡◌, [], ◌+◌, ◌-◌, ◌≤◌, min, length, take, drop};
 ghost use Rattle.std.proofs.lemmas.List.Edits.{sets};
 ghost use Rattle.runfile.specs.Runs.{stage_of};

@@ -1,4 +1,6 @@
 // A group's step, and that of the card's own half in it: from the outermost group inward.
+#![tactic(auto)]
+
 ghost use Rattle.std.specs.Prelude.{◌≡◌, ℕ, ◌+◌, ◌≤◌, length};
 ghost use Rattle.rules.specs.Parameters.{record_words};
 ghost use Rattle.rules.specs.OneBeat.{leaf_next};

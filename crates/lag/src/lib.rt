@@ -1,4 +1,6 @@
 // The lag of two counts (RULES 8), with its refusals.
+#![tactic(auto)]
+
 ghost use Rattle.std.specs.Prelude.{◌≡◌, ◌<◌};
 ghost use Rattle.rules.specs.Refusals.{lag_refusal};
 ghost use Rattle.rules.specs.Lag.{ahead};

@@ -1,7 +1,7 @@
 -- Where a group's words stand: its columns and those of its halves' outputs lie within the table.
 use mathlib.Core.Path.{◌≡◌, ap, fun_ext}
 use mathlib.Core.List.{List}
-use Prim.Native.Nat.{ℕ, ◌+◌, ◌-◌, ◌≤◌, ◌<◌}
+use Prim.Native.Nat.{ℕ, ◌+◌, ◌≤◌, ◌<◌}
 use native.Mathlib.Nat.{add_assoc}
 use native.Mathlib.Omega.{arith}
 use Rattle.rules.specs.Groups.{half_first, half_cards, half_broken, half_modulus, heard_in_half, output_of}

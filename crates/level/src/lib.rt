@@ -1,3 +1,5 @@
+#![tactic(auto)]
+
 pub mod group;
 
 ghost use Rattle.std.specs.Prelude.{◌≡◌, ℕ, ◌+◌, ◌<◌, ◌≤◌, min, length};

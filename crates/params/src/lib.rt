@@ -1,4 +1,6 @@
 // What n, f and c may be, and what follows from them (RULES 2), with refusals 1, 2 and 3.
+#![tactic(auto)]
+
 ghost use Rattle.std.specs.Prelude.{◌≡◌, ◌≤◌};
 ghost use Rattle.rules.specs.Parameters.{bad_modulus, most_broken, record_words};
 ghost use Rattle.rules.specs.Refusals.{shape_refusal, counter_refusal};

@@ -1,6 +1,6 @@
 -- Laws of the number of binary digits of f, and so of a record's size.
 use mathlib.Core.Path.{◌≡◌, refl, sym, ap}
-use Prim.Native.Nat.{ℕ, zero, suc, ◌+◌, ◌-◌, ◌/◌, ◌≤◌, ◌<◌}
+use Prim.Native.Nat.{ℕ, zero, suc, ◌+◌, ◌/◌, ◌≤◌, ◌<◌}
 use native.Mathlib.Omega.{arith}
 use lib.Arith.{half_le}
 use Rattle.rules.specs.Parameters.{digits_in, binary_digits}

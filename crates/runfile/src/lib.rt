@@ -1,4 +1,6 @@
 // A run, one line after the other (RULES 11). The n records are in the caller's table, from its start on.
+#![tactic(auto)]
+
 ghost use Rattle.std.specs.Prelude.{◌≡◌, true, ◌≤◌, length};
 ghost use Rattle.std.proofs.lemmas.List.Edits.{sets};
 ghost use Rattle.rules.specs.Text.{well_formed};

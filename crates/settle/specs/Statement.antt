@@ -1,5 +1,5 @@
 -- What is proved of the counter: what RULES 13 promises, over single steps and over whole beats.
-use Rattle.std.specs.Prelude.{◌≡◌, Bool, true, false, List, ℕ, ◌+◌, ◌*◌, ◌%◌, ◌≤◌, ◌<◌, pos, length}
+use Rattle.std.specs.Prelude.{◌≡◌, Bool, true, false, List, ℕ, ◌+◌, ◌%◌, ◌≤◌, ◌<◌, pos, length}
 use Rattle.rules.specs.declared.Vote.TheVariants.{Count}
 use Rattle.rules.specs.Parameters.{c1, most_modulus, none_word, record_words, settle_beats}
 use Rattle.rules.specs.Groups.{heard_in, kept_b, word_of}

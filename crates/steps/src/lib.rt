@@ -1,3 +1,5 @@
+#![tactic(auto)]
+
 pub mod pointer; // pointer.rt: which beat of its turn a card follows
 
 ghost use Rattle.std.specs.Prelude.{◌≡◌, ◌+◌, ◌/◌, ◌<◌, ◌≤◌, length};

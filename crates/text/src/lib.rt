@@ -1,4 +1,6 @@
 // A record as text and back (RULES 10.2), and the lines of a text (RULES 10.3).
+#![tactic(auto)]
+
 ghost use Rattle.std.specs.Prelude.{◌≡◌, ◌+◌, length};
 ghost use Rattle.rules.specs.Text.{line_at, start_of};
 ghost use Rattle.rules.specs.Refusals.{write_refusal, read_refusal, line_refusal};

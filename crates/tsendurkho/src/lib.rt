@@ -1,5 +1,7 @@
 // What C and Rust reach: one card's step and the lag, on numbers and bytes. "From C and Rust a word is two bytes, the low byte
 // first." (RULES 10.1)
+#![tactic(auto)]
+
 ghost use Rattle.std.specs.Prelude.{◌≡◌, ◌≤◌, length};
 ghost use Rattle.rules.specs.Counting.{tabulate};
 ghost use Rattle.rules.specs.Bytes.{word_at, bytes_of};
@@ -10,12 +12,12 @@ ghost use Rattle.tsendurkho.specs.Buffers.{StepBuffers};
 // Lengths in bytes, two to a word: "An odd number of bytes is a wrong length." (RULES 10.1)
 const BYTES: u8 = 2;
 
-// W of the largest f, and typeof.n.W of the largest n.
+// W of the largest f, and n·W of the largest n.
 const MOST_WORDS: usize = 25;
 
 const MOST_TABLE: usize = 400;
 
-// typeof.n.W of 7 cards with f = 1, and one more.
+// n·W of 7 cards with f = 1, and one more.
 const FEW_WORDS: usize = 64;
 
 // A step that is not refused, on words: those of the records heard, and those of the next record.

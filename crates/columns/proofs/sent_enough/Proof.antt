@@ -1,7 +1,6 @@
 -- `columns::sent_enough` meets its contract, case by case.
 use borrow.Author.Rules.{rules}
 use mathlib.Core.Path.{ap, ◌∙◌}
-use Prim.Native.Nat.{ℕ}
 use native.Mathlib.Omega.{arith}
 use Rattle.rules.specs.OneBeat.{enough}
 use Rattle.columns.specs.Columns.{word_in}

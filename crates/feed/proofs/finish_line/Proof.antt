@@ -8,7 +8,7 @@ use native.Mathlib.Omega.{arith}
 use lib.ListN.{length, take}
 use Rattle.runfile.specs.Runs.{stage_of}
 use Rattle.feed.specs.declared.Feed.TheVariants.{Reading}
-use Rattle.feed.specs.Feeds.{Machine, ended, last_fed}
+use Rattle.feed.specs.Feeds.{ended, last_fed}
 use Rattle.feed.specs.Calls.{machine_of, missing, written_by, Stands}
 use Rattle.feed.proofs.Calls.{held_min, finishes_none, finishes_refused, finishes_accepted, finished_is, one_written}
 use Rattle.feed.proofs.finish_line.Statement.{statement}

@@ -1,7 +1,7 @@
 -- `params::pace_of` meets its contract.
 use borrow.Author.Rules.{rules}
 use mathlib.Core.Path.{◌≡◌}
-use Prim.Native.Nat.{ℕ, ◌+◌, ◌*◌}
+use Prim.Native.Nat.{ℕ, ◌*◌}
 use native.Mathlib.Omega.{arith}
 use Rattle.rules.specs.Parameters.{turn, restart}
 use Rattle.params.proofs.pace_of.Statement.{statement}

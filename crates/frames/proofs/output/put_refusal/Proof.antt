@@ -7,8 +7,7 @@ use Rattle.frames.proofs.output.put_refusal.Tie as tie
 
 returns : tie.Need-returns
 returns c =
-    let a = c.args in
-    (
+    let a = c.args in (
       sym (refusal_length a.number a.refusal),
       rw (c.put_number-2.ensures, c.put_number.ensures, c.put_word.ensures)
           (refusal_stored a.number a.refusal a.out.now),
