@@ -8,7 +8,7 @@ use Rattle.text.proofs.write_record.Reads as write_record_reads
 use Rattle.text.proofs.read_record.Kinds as read_record_kinds
 use Rattle.text.proofs.read_record.Reads as read_record_reads
 use Rattle.text.proofs.line.Kinds as line_kinds
-use Rattle.text.proofs.line.Reads as line_reads_lem
+use Rattle.text.proofs.line.Reads as line_reads
 use Rattle.text.proofs.line_refusal.Kinds as line_refusal_kinds
 use Rattle.text.proofs.line_refusal.Reads as line_refusal_reads
 use Rattle.text.proofs.lines.line_end.Kinds as line_end_kinds
@@ -25,7 +25,7 @@ read_record_determined = (λ κs a. tt, λ κs a x y v w p q. (only_one p.0 q.0,
 
 -- of a part is seen what it holds, and where in the memory it begins
 pub line_determined :
-    DeterminedAs line_kinds.ps line_kinds.r line_reads_lem.Pre line_reads_lem.Post (λ κs. List ℕ × (ℕ × ℕ)) (λ κs r. (r.now, r.ref_ptr))
+    DeterminedAs line_kinds.ps line_kinds.r line_reads.Pre line_reads.Post (λ κs. List ℕ × (ℕ × ℕ)) (λ κs r. (r.now, r.ref_ptr))
 line_determined = (λ κs a. tt, λ κs a x y v w p q. (rw (only_one p.0 q.0, only_one p.1 q.1), refl))
 
 pub line_refusal_determined : Determined line_refusal_kinds.ps line_refusal_kinds.r line_refusal_reads.Pre line_refusal_reads.Post
