@@ -7,6 +7,7 @@ use std::fs;
 use std::path::PathBuf;
 use std::process::{Command, Output};
 
+use pages::files;
 use program::root;
 
 /// A folder of a test's own, with the scripts in it. It is removed at the end.
@@ -34,15 +35,15 @@ impl Copy {
     }
 
     fn take(&self, part: &str) {
-        let copied = Command::new("cp")
-            .arg("-R")
-            .arg(root().join(part))
-            .arg(&self.folder)
-            .status();
-        assert!(
-            copied.expect("cp starts").success(),
-            "{part} could not be copied"
-        );
+        let mut found = Vec::new();
+        files(&root().join(part), &mut found);
+        for path in found {
+            let file = path.strip_prefix(root()).expect("it is below the root");
+            let to = self.folder.join(file);
+            fs::create_dir_all(to.parent().expect("a file is in a folder"))
+                .expect("a folder for it");
+            fs::copy(&path, to).expect("the file can be copied");
+        }
     }
 
     pub fn path(&self, file: &str) -> PathBuf {

@@ -6,7 +6,7 @@ const LAG: &str = "crates/lag/src/lib.rt";
 const COLUMNS: &str = "crates/columns/src/lib.rt";
 const LEMMAS: &str = "crates/lag/proofs/Determined.antt";
 const LIST: &str = "docs/CONTRACTS.md";
-const REFUSAL: &str = "ensures { λ r. ⌜ r ≡ lagRefusal c x y ⌝ }";
+const REFUSAL: &str = "ensures { result ≡ lag_refusal c x y }";
 
 /// What is reported of a copy with something wrong in it.
 fn reported(name: &str, sabotage: impl Fn(&Copy), lines: &[&str]) {
@@ -33,7 +33,7 @@ fn the_list_as_it_is() {
 
 #[test]
 fn a_public_routine_with_a_requires() {
-    let asks = format!("requires {{ ⌜ 2 ≤ c ⌝ }}\n    {REFUSAL}");
+    let asks = format!("requires {{ 2 ≤ c }}\n    {REFUSAL}");
     reported(
         "requires",
         |copy| copy.replace(LAG, REFUSAL, &asks),
@@ -54,7 +54,7 @@ fn a_public_routine_without_an_ensures() {
 fn an_internal_routine_without_an_ensures() {
     reported(
         "internal-no-ensures",
-        |copy| copy.replace(COLUMNS, "ensures { λ r. ⌜ r ≡ readVote m word ⌝ }", ""),
+        |copy| copy.replace(COLUMNS, "ensures { result ≡ read_vote m word }", ""),
         &["contracts: columns::read_vote: it has no ensures"],
     );
 }
@@ -62,7 +62,7 @@ fn an_internal_routine_without_an_ensures() {
 /// In any crate, in any file, in any block, with its brace on any line.
 #[test]
 fn a_routine_that_is_not_listed() {
-    let promised = "ensures { λ r. ⌜ r ≡ x ⌝ }";
+    let promised = "ensures { result ≡ x }";
     let plain = format!("\npub fn extra(x: u32) -> u32\n    {promised}\n{{\n    x\n}}\n");
     let in_one_line = format!("\npub fn extra(x: u32) -> u32 {promised} {{ x }}\n");
     let method =
@@ -113,7 +113,7 @@ fn a_row_of_no_routine() {
 
 #[test]
 fn a_routine_with_two_rows() {
-    let row = "| `lag::lag_refusal` | the refusal of a lag | 3, 9 | `lag-refusal-determined` | `swapped_refusals`, `one_input_tested` |\n";
+    let row = "| `lag::lag_refusal` | the refusal of a lag | 3, 9 | `lag_refusal_determined` | `swapped_refusals`, `one_input_tested` |\n";
     reported(
         "two-rows",
         |copy| copy.replace(LIST, row, &row.repeat(2)),
@@ -145,12 +145,33 @@ fn an_internal_routine_that_no_other_crate_calls() {
     );
 }
 
+/// Names may come in one by one or in lists, on any lines, and under another name.
+#[test]
+fn a_call_by_a_name_that_a_list_brings_in() {
+    let header = "crates/frames/src/header.rt";
+    let list = "use digits::{\n    well_formed,\n    words::{self, put_word as put}, // both\n    number_at,\n};\n";
+    passes("listed-name", |copy| {
+        copy.replace(header, "use digits::{number_at, well_formed};\n", list);
+        copy.replace(
+            "crates/frames/src/frame.rt",
+            "use digits::{number_at, well_formed};\n",
+            "use digits::well_formed;\n",
+        );
+        copy.replace(
+            "crates/frames/src/output.rt",
+            "use digits::words::put_word;\n",
+            "use digits::words as put_word;\n",
+        );
+        copy.append(header, "fn more() {\n    put(1);\n}\n");
+    });
+}
+
 #[test]
 fn a_lemma_that_is_not_there() {
     reported(
         "no-lemma",
-        |copy| copy.replace(LEMMAS, "pub lag-determined :", "lag-determined :"),
-        &["contracts: lag::lag_of: there is no lemma lag-determined over its contract"],
+        |copy| copy.replace(LEMMAS, "pub lag_determined :", "lag_determined :"),
+        &["contracts: lag::lag_of: there is no lemma lag_determined over its contract"],
     );
     reported(
         "no-file",
@@ -178,25 +199,25 @@ fn a_lemma_that_is_not_checked() {
 fn a_lemma_of_another_contract() {
     reported(
         "another-contract",
-        |copy| copy.replace(LEMMAS, "proofs.lag_of.Reads as lag-reads", "proofs.lag_refusal.Reads as lag-reads"),
-        &["contracts: lag::lag_of: crates/lag/proofs/Determined.antt does not use its Reads as lag-reads"],
+        |copy| copy.replace(LEMMAS, "proofs.lag_of.Reads as lag_reads", "proofs.lag_refusal.Reads as lag_reads"),
+        &["contracts: lag::lag_of: crates/lag/proofs/Determined.antt does not use its Reads as lag_reads"],
     );
     reported(
         "by-hand",
         |copy| {
-            let over = ": Determined lag-kinds.ps lag-kinds.r lag-reads.Pre lag-reads.Post";
+            let over = ": Determined lag_kinds.ps lag_kinds.r lag_reads.Pre lag_reads.Post";
             let by_hand =
-                ": (c x y : ℕ) (z w : ℤ) → z ≡ lagAnswer c x y → w ≡ lagAnswer c x y → z ≡ w";
+                ": (c x y : ℕ) (z w : ℤ) → z ≡ lag_answer c x y → w ≡ lag_answer c x y → z ≡ w";
             copy.replace(LEMMAS, over, by_hand);
         },
-        &["contracts: lag::lag_of: there is no lemma lag-determined over its contract"],
+        &["contracts: lag::lag_of: there is no lemma lag_determined over its contract"],
     );
 }
 
 /// A way out after the statement, on its line or on the next; and a lemma that says nothing of the result.
 #[test]
 fn a_lemma_that_says_less() {
-    let over = "Determined lag-kinds.ps lag-kinds.r lag-reads.Pre lag-reads.Post\n";
+    let over = "Determined lag_kinds.ps lag_kinds.r lag_reads.Pre lag_reads.Post\n";
     let way_out = over.replace("Post\n", "Post ⊎ Unit\n");
     let on_the_next_line = over.replace("Post\n", "Post\n    ⊎ Unit\n");
     let blind = over
@@ -206,7 +227,7 @@ fn a_lemma_that_says_less() {
         reported(
             "says-less",
             |copy| copy.replace(LEMMAS, over, &less),
-            &["contracts: lag::lag_of: there is no lemma lag-determined over its contract"],
+            &["contracts: lag::lag_of: there is no lemma lag_determined over its contract"],
         );
     }
 }
@@ -218,16 +239,10 @@ const OTHER_MEANING: [&str; 2] = [
 
 #[test]
 fn a_lemma_of_another_meaning() {
-    let ours = "use Rattle·rules.proofs.Determined.{Determined";
+    let ours = "use Rattle.rules.proofs.Determined.{Determined";
     reported(
         "another-meaning",
-        |copy| {
-            copy.replace(
-                LEMMAS,
-                ours,
-                "use Rattle·lag·proofs.proofs.Parts.{Determined",
-            )
-        },
+        |copy| copy.replace(LEMMAS, ours, "use Rattle.lag.proofs.Parts.{Determined"),
         &OTHER_MEANING,
     );
     reported(
@@ -284,7 +299,7 @@ fn comments_strings_and_clauses() {
 /* pub fn in_a_block() {
 } */
 pub(crate) fn for_the_crate(brace: u8) -> bool
-    ensures { λ r. ⌜ r ≡ same {A = ℕ} brace ⌝ }
+    ensures { result ≡ same {A = ℕ} brace }
 {
     brace == b'{' || b\"pub fn {\"[0] == brace
 }

@@ -74,12 +74,12 @@ fn source_of(routine: &str) -> (String, String) {
     (page(&file), parts[parts.len() - 1].to_string())
 }
 
-/// The names that a source's contracts take from specs other than the rules'.
+/// The names that a source's contracts take from specs other than the rules' and the kit's own.
 fn lent(source: &str) -> BTreeSet<String> {
     let lines = source
         .lines()
-        .filter_map(|line| line.strip_prefix("ghost use Rattle·"));
-    let others = lines.filter(|line| !line.starts_with("rules."));
+        .filter_map(|line| line.strip_prefix("ghost use Rattle."));
+    let others = lines.filter(|line| !line.starts_with("rules.") && !line.starts_with("std."));
     let lists = others.filter_map(|line| line.split_once('{')?.1.strip_suffix("};"));
     lists
         .flat_map(|list| list.split(", "))
@@ -94,9 +94,7 @@ fn cited_from_elsewhere(routine: &str) -> BTreeSet<String> {
         .find(&format!("fn {name}("))
         .expect("the routine is there");
     let head = source[begin..].split("\n{").next().expect("a body");
-    let words: BTreeSet<&str> = head
-        .split(|sign: char| " ().⌜⌝{}\n".contains(sign))
-        .collect();
+    let words: BTreeSet<&str> = head.split(|sign: char| " ().{}\n".contains(sign)).collect();
     lent(&source)
         .into_iter()
         .filter(|name| words.contains(name.as_str()))
