@@ -72,11 +72,11 @@ fn spoil<C: Call>(call: &mut C, random: &mut Random) {
 
 impl Defined for ParametersCall {
     fn refusal(&self) -> String {
-        apply("shapeRefusal", &[&self.n, &self.f, &0])
+        apply("shape_refusal", &[&self.n, &self.f, &0])
     }
 
     fn answer(&self) -> String {
-        apply("paramsAnswer", &[&self.n, &self.f])
+        apply("params_answer", &[&self.n, &self.f])
     }
 
     fn answered(&self, row: Option<Parameters>) -> Value {
@@ -95,13 +95,13 @@ impl Defined for StepCall {
     fn refusal(&self) -> String {
         let StepCall { n, f, c, card, .. } = self;
         let (records, out) = (self.records.len(), self.out.len());
-        apply("stepRefusal", &[n, f, c, card, &records, &out])
+        apply("step_refusal", &[n, f, c, card, &records, &out])
     }
 
     fn answer(&self) -> String {
         let StepCall { n, f, c, card, .. } = self;
         let (records, out) = (Value::list(&self.records), Value::list(&self.out));
-        apply("stepOut", &[n, f, c, card, &records, &out])
+        apply("step_out", &[n, f, c, card, &records, &out])
     }
 
     fn answered(&self, _: Option<()>) -> Value {
@@ -113,13 +113,13 @@ impl Defined for StepBytesCall {
     fn refusal(&self) -> String {
         let StepBytesCall { n, f, c, card, .. } = self;
         let (records, out) = (self.records.len(), self.out.len());
-        apply("stepBytesRefusal", &[n, f, c, card, &records, &out])
+        apply("step_bytes_refusal", &[n, f, c, card, &records, &out])
     }
 
     fn answer(&self) -> String {
         let StepBytesCall { n, f, c, card, .. } = self;
         let (records, out) = (Value::list(&self.records), Value::list(&self.out));
-        apply("stepBytesOut", &[n, f, c, card, &records, &out])
+        apply("step_bytes_out", &[n, f, c, card, &records, &out])
     }
 
     fn answered(&self, _: Option<()>) -> Value {
@@ -133,7 +133,7 @@ impl Defined for BeatCall {
             n, f, c, broken, ..
         } = self;
         let (records, sent, out) = (self.records.len(), self.sent.len(), self.out.len());
-        apply("beatRefusal", &[n, f, c, broken, &records, &sent, &out])
+        apply("beat_refusal", &[n, f, c, broken, &records, &sent, &out])
     }
 
     fn answer(&self) -> String {
@@ -142,7 +142,7 @@ impl Defined for BeatCall {
         } = self;
         let (records, sent) = (Value::list(&self.records), Value::list(&self.sent));
         let out = Value::list(&self.out);
-        apply("beatOut", &[n, f, c, broken, &records, &sent, &out])
+        apply("beat_out", &[n, f, c, broken, &records, &sent, &out])
     }
 
     fn answered(&self, _: Option<()>) -> Value {
@@ -153,12 +153,12 @@ impl Defined for BeatCall {
 impl Defined for ShownCall {
     fn refusal(&self) -> String {
         let ShownCall { n, f, c, record } = self;
-        apply("shownRefusal", &[n, f, c, &record.len()])
+        apply("shown_refusal", &[n, f, c, &record.len()])
     }
 
     fn answer(&self) -> String {
         let ShownCall { n, f, c, record } = self;
-        apply("shownAnswer", &[n, f, c, &Value::list(record)])
+        apply("shown_answer", &[n, f, c, &Value::list(record)])
     }
 
     fn answered(&self, shown: Option<Option<u16>>) -> Value {
@@ -168,11 +168,11 @@ impl Defined for ShownCall {
 
 impl Defined for LagCall {
     fn refusal(&self) -> String {
-        apply("lagRefusal", &[&self.c, &self.x, &self.y])
+        apply("lag_refusal", &[&self.c, &self.x, &self.y])
     }
 
     fn answer(&self) -> String {
-        apply("lagAnswer", &[&self.c, &self.x, &self.y])
+        apply("lag_answer", &[&self.c, &self.x, &self.y])
     }
 
     fn answered(&self, lag: Option<i32>) -> Value {
@@ -183,12 +183,15 @@ impl Defined for LagCall {
 impl Defined for WriteCall {
     fn refusal(&self) -> String {
         let WriteCall { n, f, record, out } = self;
-        apply("writeRefusal", &[n, f, &record.len(), &out.len()])
+        apply("write_refusal", &[n, f, &record.len(), &out.len()])
     }
 
     fn answer(&self) -> String {
         let WriteCall { n, f, record, out } = self;
-        apply("writeOut", &[n, f, &Value::list(record), &Value::list(out)])
+        apply(
+            "write_out",
+            &[n, f, &Value::list(record), &Value::list(out)],
+        )
     }
 
     fn answered(&self, _: Option<()>) -> Value {
@@ -199,12 +202,12 @@ impl Defined for WriteCall {
 impl Defined for ReadCall {
     fn refusal(&self) -> String {
         let ReadCall { n, f, text, out } = self;
-        apply("readRefusal", &[n, f, &Value::list(text), &out.len()])
+        apply("read_refusal", &[n, f, &Value::list(text), &out.len()])
     }
 
     fn answer(&self) -> String {
         let ReadCall { n, f, text, out } = self;
-        apply("readOut", &[n, f, &Value::list(text), &Value::list(out)])
+        apply("read_out", &[n, f, &Value::list(text), &Value::list(out)])
     }
 
     fn answered(&self, _: Option<()>) -> Value {

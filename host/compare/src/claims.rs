@@ -4,12 +4,8 @@ use crate::case::{Case, Equation};
 use crate::definitions::Definitions;
 
 const PREAMBLE: &str = "\
-use Prim.Native.Nat.{ℕ}
-use mathlib.Core.Path.{_≡_, refl}
-use mathlib.Core.Bool.{true, false}
-use mathlib.Core.List.{[], _∷_}
-use lib.IntN.{pos, negsuc}
-use Rattle·rules.specs.declared.Vote.the-variants.{Count, None}
+use Rattle.std.specs.Prelude.{◌≡◌, refl, true, false, [], ◌∷◌, pos, negsuc}
+use Rattle.rules.specs.declared.Vote.TheVariants.{Count, None}
 ";
 
 /// How many cases there are in one file.
@@ -45,7 +41,7 @@ const CASE: &str = "case";
 
 /// The name of the claim that an equation of a case makes.
 pub fn claim_name(number: usize, about: &str) -> String {
-    format!("{CASE}{number}-{about}")
+    format!("{CASE}{number}_{}", about.replace('-', "_"))
 }
 
 pub fn is_claim_name(name: &str) -> bool {

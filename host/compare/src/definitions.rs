@@ -40,7 +40,7 @@ impl Definitions {
             }
         }
         let imports = imports.join(", ");
-        let line = format!("use Rattle·rules.specs.{module}.{{{imports}}}\n");
+        let line = format!("use Rattle.rules.specs.{module}.{{{imports}}}\n");
         self.imports += &line;
     }
 }

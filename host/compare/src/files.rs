@@ -25,7 +25,7 @@ pub fn digits(random: &mut Random) -> Case {
             text[random.below(4)] = no_digit(random);
         }
         let characters = Value::list(&text);
-        let formed = apply("bitOf", &[&apply("wellFormed", &[&4, &characters])]);
+        let formed = apply("bit_of", &[&apply("well_formed", &[&4, &characters])]);
         let read = read_words(&text, 1);
         case = case.says(
             &format!("formed-{place}"),
@@ -33,7 +33,7 @@ pub fn digits(random: &mut Random) -> Case {
             Value::Number(read.is_ok().into()),
         );
         if let Ok(words) = read {
-            let number = apply("numberAt", &[&characters, &0, &4]);
+            let number = apply("number_at", &[&characters, &0, &4]);
             case = case.says(
                 &format!("word-{place}"),
                 number,
@@ -56,12 +56,12 @@ pub fn one_line(random: &mut Random) -> Case {
     Case::new(format!("line {k} of {}", shown(&text)))
         .says(
             "refusal",
-            apply("lineRefusal", &[&k, &characters]),
+            apply("line_refusal", &[&k, &characters]),
             Value::Number(refusal.into()),
         )
         .says(
             "line",
-            apply("lineAt", &[&k, &characters]),
+            apply("line_at", &[&k, &characters]),
             Value::list(found.unwrap_or(&[])),
         )
 }
@@ -121,7 +121,7 @@ fn outputs_of(texts: &[Vec<u8>]) -> Case {
 fn output_of(case: Case, about: &str, text: &[u8]) -> Case {
     let mut output = Vec::new();
     run(text, &mut output).expect("a vector takes all");
-    let term = apply("runText", &[&Value::list(text)]);
+    let term = apply("run_text", &[&Value::list(text)]);
     case.says(about, term, Value::list(&output))
 }
 

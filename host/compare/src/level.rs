@@ -20,8 +20,8 @@ pub fn formulas(random: &mut Random) -> Case {
         ("c0", params::c0(f).into()),
         ("c1", params::c1(f).into()),
         ("restart", params::restart(f).into()),
-        ("recordWords", params::words(f) as u64),
-        ("settleBeats", params::settled(f) as u64),
+        ("record_words", params::words(f) as u64),
+        ("settle_beats", params::settled(f) as u64),
     ];
     let says = |case: Case, (name, wanted): (&'static str, u64)| {
         case.says(name, apply(name, &[&f]), Value::Number(wanted))
@@ -34,14 +34,14 @@ pub fn halves(random: &mut Random) -> Case {
     let group = split_group(random);
     let Group { n, f, .. } = group;
     let card = random.below(n);
-    let mut terms = vec![apply("halfOf", &[&n, &card])];
+    let mut terms = vec![apply("half_of", &[&n, &card])];
     let mut numbers = vec![group.half_of(card) as u64];
     for i in [0, 1] {
         let half = group.half(i);
-        terms.push(apply("halfCards", &[&i, &n]));
-        terms.push(apply("halfFirst", &[&i, &n]));
-        terms.push(apply("halfBroken", &[&i, &f]));
-        terms.push(apply("halfModulus", &[&i, &f]));
+        terms.push(apply("half_cards", &[&i, &n]));
+        terms.push(apply("half_first", &[&i, &n]));
+        terms.push(apply("half_broken", &[&i, &f]));
+        terms.push(apply("half_modulus", &[&i, &f]));
         let first = group.cards_of_half(i).start;
         numbers.extend([half.n as u64, first as u64, half.f as u64, half.c.into()]);
     }
@@ -54,8 +54,8 @@ pub fn reading(random: &mut Random) -> Case {
     let shape = Shape::random(random);
     let (word, c) = (shape.word(random), shape.c);
     let vote = count::read(word, c as u16);
-    let read = apply("readVote", &[&c, &word]);
-    let written = apply("wordOf", &[&read]);
+    let read = apply("read_vote", &[&c, &word]);
+    let written = apply("word_of", &[&read]);
     Case::new(format!("word {word}, modulus {c}"))
         .says("read", read, Value::Vote(vote))
         .says("written", written, Value::Number(count::write(vote).into()))
@@ -64,7 +64,7 @@ pub fn reading(random: &mut Random) -> Case {
 pub fn most_frequent(random: &mut Random) -> Case {
     let (n, m) = (random.below(9), modulus(random));
     let heard: Vec<_> = (0..n).map(|_| any_vote(random, m)).collect();
-    let term = apply("mostFrequent", &[&m, &n, &sent(&heard)]);
+    let term = apply("most_frequent", &[&m, &n, &sent(&heard)]);
     let wanted = split::most_frequent(&heard);
     Case::new(format!("modulus {m}, {heard:?}")).says("m", term, Value::Number(wanted.into()))
 }
@@ -134,9 +134,9 @@ pub fn three_steps(random: &mut Random) -> Case {
     };
     let wanted = king::step(group, d, own, &heard);
     let standing = apply("standing", &[&Value::Vote(own.a), &own.b]);
-    let after = apply("threeSteps", &[&n, &f, &c, &sent(&heard), &d, &standing]);
-    let gained = apply("gained", &[&c, &format!("{after} .a")]);
-    let bit = apply("bitOf", &[&format!("{after} .b")]);
+    let after = apply("three_steps", &[&n, &f, &c, &sent(&heard), &d, &standing]);
+    let gained = apply("gained", &[&c, &format!("({after}).a")]);
+    let bit = apply("bit_of", &[&format!("({after}).b")]);
     Case::new(format!("{group:?}, d {d}, {own:?}, heard {heard:?}"))
         .says("a", gained, Value::Vote(wanted.a))
         .says("b", bit, Value::Number(wanted.b.into()))

@@ -1,14 +1,15 @@
 //! The prover's verdict on a throw-away crate over the rules.
 
 use std::collections::BTreeMap;
+use std::env;
 use std::fs;
 use std::io::{self, ErrorKind};
 use std::path::{Path, PathBuf};
-use std::process::Command;
+use std::process::{self, Command};
 
 use crate::claims::is_claim_name;
 
-/// A throw-away repository over a copy of the rules.
+/// A throw-away repository over a copy of the rules. It is removed at the end.
 pub struct Repository {
     folder: PathBuf,
 }
@@ -17,23 +18,21 @@ pub struct Repository {
 pub type Refused = BTreeMap<String, String>;
 
 impl Repository {
-    /// Made again beside what else is built, with a copy of the rules' definitions.
+    /// With a copy of the rules' definitions. It is outside the checkout, in which rt allows no such file beside the crates.
     pub fn new(root: &Path) -> io::Result<Repository> {
-        let folder = root.join("target/compare");
-        match fs::remove_dir_all(&folder) {
-            Err(error) if error.kind() != ErrorKind::NotFound => return Err(error),
-            _ => {}
-        }
+        let folder = env::temp_dir().join(format!("compare-{}", process::id()));
+        fs::create_dir(&folder)?;
+        let repository = Repository { folder };
         for part in ["src", "specs"] {
             let from = root.join("crates/rules").join(part);
-            let to = folder.join("crates/rules").join(part);
+            let to = repository.folder.join("crates/rules").join(part);
             fs::create_dir_all(&to)?;
             for entry in fs::read_dir(from)? {
                 let entry = entry?;
                 fs::copy(entry.path(), to.join(entry.file_name()))?;
             }
         }
-        Ok(Repository { folder })
+        Ok(repository)
     }
 
     /// Asks for a proof of a crate with these files of claims. An error that is not about one of
@@ -41,7 +40,8 @@ impl Repository {
     pub fn refused(&self, name: &str, files: &[(String, String)]) -> io::Result<Refused> {
         self.write_crate(name, files)?;
         let mut prover = Command::new("rt");
-        prover.args(["check", name]).current_dir(&self.folder);
+        let place = self.folder.join("crates").join(name);
+        prover.arg("check").current_dir(place);
         let ended = prover.output().map_err(|error| {
             io::Error::new(
                 error.kind(),
@@ -66,6 +66,13 @@ impl Repository {
         }
         let listed = format!("rules:\n{name}: rules\n");
         fs::write(self.folder.join("crates.txt"), listed)
+    }
+}
+
+impl Drop for Repository {
+    fn drop(&mut self) {
+        // What is left in a temporary folder does no harm.
+        let _ = fs::remove_dir_all(&self.folder);
     }
 }
 

@@ -16,15 +16,15 @@ fn definitions() -> Definitions {
 }
 
 fn lag(value: i64) -> Case {
-    let term = "lagAnswer 8 1 7".to_string();
+    let term = "lag_answer 8 1 7".to_string();
     Case::new("1 against 7".to_string()).says("lag", term, Value::Integer(value))
 }
 
 #[test]
 fn the_definitions_are_read_from_the_rules() {
     let Definitions { imports, unfolded } = definitions();
-    assert!(imports.contains("use Rattle·rules.specs.Lag.{ahead, nearest, lagOf}\n"));
-    assert!(unfolded.contains(&"lagOf".to_string()));
+    assert!(imports.contains("use Rattle.rules.specs.Lag.{ahead, nearest, lag_of}\n"));
+    assert!(unfolded.contains(&"lag_of".to_string()));
     assert!(!unfolded.contains(&"ahead".to_string()));
     let names: BTreeSet<&String> = unfolded.iter().collect();
     assert_eq!(names.len(), unfolded.len());
@@ -77,39 +77,39 @@ fn each_equation_is_a_claim_in_a_file_that_is_listed() {
     let names = claim_names(&cases);
     assert_eq!(names.len(), cases.len());
     for (value, name) in names.iter().enumerate() {
-        assert!(text.contains(&format!("\npub {name} : lagAnswer 8 1 7 ≡ pos {value}\n")));
+        assert!(text.contains(&format!("\npub {name} : lag_answer 8 1 7 ≡ pos {value}\n")));
         assert!(text.contains(&format!("\n{name} = refl\n")));
     }
 }
 
 /// What the prover prints where the second of three claims is wrong.
 const SAID: &str = "\
-rt: rules proved (1 s)
-Batch0.antt:18:9: error: `case1-lag`: expected type `lagAnswer 8 1 7 ≡ pos 3`
+rt: chose --jobs 2 for cases
+./specs/Batch0.antt:18:13: error: `case1_lag`: expected type `lag_answer 8 1 7 ≡ pos 3`, but this has another
   computed as far as they go, the two types are ..
+./specs/Batch0.antt:16:5: note: a trial run of this declaration was refused too. (in `case1_lag`)
 logic=not-proved
-rt: cases NOT PROVED (exit 1, 0 s)
 ";
 
 #[test]
 fn a_refused_claim_is_reported_with_its_inputs() {
     let refused = refused_claims(SAID);
-    assert_eq!(refused.keys().collect::<Vec<_>>(), ["case1-lag"]);
+    assert_eq!(refused.keys().collect::<Vec<_>>(), ["case1_lag"]);
     let report = differences(&[lag(2), lag(3), lag(2)], &refused);
     let wanted = "case 1, the halves of a group: lag\n\
                   inputs: 1 against 7\n\
-                  definition: lagAnswer 8 1 7\n\
+                  definition: lag_answer 8 1 7\n\
                   second implementation: pos 3\n\
-                  Batch0.antt:18:9: error: ";
+                  ./specs/Batch0.antt:18:13: error: ";
     assert!(report.starts_with(wanted), "{report}");
     assert!(report.contains("\n  computed as far as they go"));
-    assert!(!report.contains("logic=not-proved"));
+    assert!(!report.contains("trial run") && !report.contains("logic=not-proved"));
     assert!(report.ends_with("compare: equations that do not hold: 1\n"));
 }
 
 #[test]
 fn another_error_is_not_a_refused_claim() {
-    let said = "Batch0.antt:8:1: error: `lagOf`: there is no such name\n";
+    let said = "Batch0.antt:8:1: error: `lag_of`: there is no such name\n";
     assert_eq!(refused_claims(said), Refused::new());
 }
 
@@ -120,9 +120,9 @@ fn wrong_values_that_are_not_refused_are_an_error() {
     let report = figures(&cases, &wrong, &refused).unwrap_err();
     assert_eq!(
         report,
-        "compare: wrong values are not refused: [\"case0-lag\"]\n"
+        "compare: wrong values are not refused: [\"case0_lag\"]\n"
     );
-    refused.insert("case0-lag".to_string(), String::new());
+    refused.insert("case0_lag".to_string(), String::new());
     let report = figures(&cases, &wrong, &refused).unwrap();
     assert!(report.starts_with("compare: 2 cases, 2 equations, all as the definitions compute\n"));
 }

@@ -30,9 +30,9 @@ fn each_value_is_written_as_antt_reads_it() {
 fn an_argument_of_several_words_is_in_brackets() {
     let list = Value::list(&[2_u16, 1]);
     let empty = Value::list::<u16>(&[]);
-    let term = apply("shownAnswer", &[&2, &0, &empty, &list]);
-    assert_eq!(term, "shownAnswer 2 0 [] (2 ∷ 1 ∷ [])");
-    assert_eq!(apply("bitOf", &[&term]), format!("bitOf ({term})"));
+    let term = apply("shown_answer", &[&2, &0, &empty, &list]);
+    assert_eq!(term, "shown_answer 2 0 [] (2 ∷ 1 ∷ [])");
+    assert_eq!(apply("bit_of", &[&term]), format!("bit_of ({term})"));
 }
 
 #[test]
