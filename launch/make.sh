@@ -1,16 +1,17 @@
 # Proves and builds the run program and the archive if they are not up to date. To be sourced by the launcher.
 #
-# rt keeps what it has proved, and asking it is cheap if nothing changed; but it does not see that a file it made is gone, two
-# runs of it in one folder spoil each other's notes, and it builds an archive again each time. So target/made has, for each of
-# the two products, the sums of its sources and of itself, written when it was complete: a product whose sums differ is built
-# again. An interrupted build leaves no such note.
+# rt leaves what it builds of a crate in the crate's out/, and keeps there what it has proved; from there a product is copied
+# into target/. Asking rt takes seconds even if nothing changed, and it builds an archive again each time. So target/made has,
+# for each of the two products, the sums of its sources and of itself, written when it was complete: a product whose sums
+# differ is built again. An interrupted build leaves no such note.
 
 program=target/bin/blockrun
 archive=target/staticlib/libtsendurkho.a
 
 # One sum of all that a proof depends on.
 sum_of_sources() {
-    (cd "$root" && find crates crates.txt -name must-fail -prune -o -type f -exec sha256sum {} + | LC_ALL=C sort | sha256sum)
+    (cd "$root" && find crates crates.txt \( -name must-fail -o -name out \) -prune -o -type f -exec sha256sum {} + |
+        LC_ALL=C sort | sha256sum)
 }
 
 is_made() { # PRODUCT
@@ -65,6 +66,12 @@ crate_of() { # PRODUCT
     [ "$1" = "$program" ] && echo blockrun || echo tsendurkho
 }
 
+# Where rt leaves it.
+built_as() { # PRODUCT
+    name=${1##*/}
+    echo "crates/$(crate_of "$1")/out/$name"
+}
+
 # Waits for other builds here, and for provers that an interrupted build has left running.
 wait_for_others() {
     exec 9<"$root"
@@ -93,44 +100,47 @@ expected_time() { # PRODUCT...
     { kept_crates && cat "$root/crates.txt" "$root/docs/ECONOMY.md"; } | awk -v asked="$(echo $asked)" -f "$root/launch/time.awk"
 }
 
-# The crates that rt has proved and that have no later file.
+# The libraries that rt has proved and built, and that have no later file.
 kept_crates() {
-    for stamp in "$root"/target/stamp/*; do
-        crate=$root/crates/${stamp##*/}
-        [ -n "$(find "$crate" -name must-fail -prune -o -newer "$stamp" -print 2>&1 | head -n 1)" ] || echo "${stamp##*/}"
+    for stamp in "$root"/crates/*/out/rlib/stamp; do
+        crate=${stamp%/out/rlib/stamp}
+        later=$(find "$crate" -mindepth 1 \( -name must-fail -o -name out \) -prune -o -newer "$stamp" -print 2>&1 | head -n 1)
+        [ -n "$later" ] || echo "${crate##*/}"
     done
 }
 
-# rt ends with 2 if it cannot read what it made before: then it makes that again, once.
+# rt ends with 2 if it cannot read a library that it built before: then those are thrown away, and rt asked once more.
 build() { # PRODUCT
-    [ -f "$root/$program" ] || rm -f "$root/target/stamp/blockrun"
     status=0
     ask_rt "$1" || status=$?
     if [ "$status" -eq 2 ]; then
-        rm -rf "$root/target/stamp"
+        rm -rf "$root"/crates/*/out/rlib
         status=0
         ask_rt "$1" || status=$?
     fi
-    [ "$status" -eq 0 ] && [ -f "$root/$1" ]
+    [ "$status" -eq 0 ] && mkdir -p "$root/${1%/*}" && cp "$root/$(built_as "$1")" "$root/$1"
 }
 
 log=$root/target/build.log
 
 # What rt prints is kept, and shown if it fails. Its status comes through a pipe of its own, which rt does not have: a prover
-# that Ctrl-C leaves running would keep the launcher waiting.
+# that Ctrl-C leaves running would keep the launcher waiting. rt builds a program only to run it, here on the gate's input.
 ask_rt() { # PRODUCT
-    [ "$1" = "$program" ] && asked=check || asked=staticlib
-    set -- "$asked" "$(crate_of "$1")"
+    [ "$1" = "$program" ] && asked=run input=stdin || asked=lib input=/dev/null
+    at=$root/crates/$(crate_of "$1")
     mkdir -p "$root/target"
-    ended=$({ { (cd "$root" && rt "$@") </dev/null 2>&1 5>&- && echo 0 >&5 || echo $? >&5; } | keep_log; } 5>&1 >/dev/null)
+    ended=$({ { (cd "$at" && rt "$asked" <"$input") 2>&1 5>&- && echo 0 >&5 || echo $? >&5; } | keep_log; } 5>&1 >/dev/null)
     return "${ended:-1}"
 }
 
-# On a terminal each crate is named once it is proved.
+# On a terminal each crate is named once it is proved: rt prints `crate NAME: ..` and then `logic=proved ..`.
 keep_log() {
     if [ -t 2 ]; then
-        tee "$log" | while read -r rt crate verdict _; do
-            [ "$rt $verdict" != "rt: proved" ] || announce "proving, $time in all; $crate is proved"
+        tee "$log" | while read -r word crate _; do
+            case $word in
+            crate) proving=${crate%:} ;;
+            logic=proved) announce "proving, $time in all; $proving is proved" ;;
+            esac
         done
     else
         cat >"$log"

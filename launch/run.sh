@@ -1,12 +1,12 @@
 # The run program, started, and what it reports put into words. To be sourced by the launcher.
 
-# Compiled Rattle is x86-64 code: elsewhere it runs under the kit's own emulator and loader.
+# Compiled Rattle is x86-64 code: elsewhere it runs under an emulator, with the kit's own loader and C library.
 start() {
     if [ "$(uname -m)" = x86_64 ]; then
         exec "$root/$program"
     fi
-    kit=$(dirname "$(dirname "$(rt doc)")")/on/$(uname -m)/toolchain
-    exec "$kit/bin/qemu-x86_64" "$kit/lib/ld-linux-x86-64.so.2" --library-path "$kit/lib" "$root/$program"
+    kit=$(dirname "$(rt doc)")/toolchain
+    exec qemu-x86_64 "$kit/lib/ld-linux-x86-64.so.2" --library-path "$kit/lib" "$root/$program"
 }
 
 # The run program has no exit status of its own. It reports a failed read or write and a refused line on standard error.

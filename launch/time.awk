@@ -1,7 +1,7 @@
 # How long the proof of the crates `asked` for, and of what they depend on, will take. What is read: the names of the crates
 # that need no proof, crates.txt, and the table of docs/ECONOMY.md.
 
-/^[A-Za-z_0-9]+:/ { name = $1; sub(/:$/, "", name); depends[name] = $0; next }
+/^[A-Za-z_0-9]+( (staticlib|[a-z_]+=[^ :]+))*:/ { name = $1; sub(/:$/, "", name); sub(/^[^:]*:/, "x"); depends[name] = $0; next }
 NF == 1 { kept[$1] }
 NF == 15 { seconds[$2] = $14 }
 

@@ -5,11 +5,11 @@ use std::env;
 use std::env::consts::ARCH;
 use std::fs;
 use std::os::unix::fs::symlink;
-use std::path::{Path, PathBuf};
+use std::path::PathBuf;
 use std::process::{Command, Output};
 
 use gate::pages::{fenced, page};
-use program::{launcher, root};
+use program::{launcher, root, scratch};
 
 fn on_the_page(language: &str) -> Vec<String> {
     fenced(&page("docs/HOST.md"), language)
@@ -22,11 +22,9 @@ struct Beside {
 
 impl Beside {
     fn nothing(name: &str) -> Beside {
-        let folder = Path::new(env!("CARGO_TARGET_TMPDIR")).join(name);
-        if folder.exists() {
-            fs::remove_dir_all(&folder).expect("an earlier run's folder can go");
-        }
-        let beside = Beside { folder };
+        let beside = Beside {
+            folder: scratch(name),
+        };
         let [manifest, settings] = <[String; 2]>::try_from(on_the_page("toml"))
             .expect("the page has a manifest and settings for other machines");
         let [main] = <[String; 1]>::try_from(on_the_page("rust")).expect("the page has a program");

@@ -20,12 +20,14 @@ pub fn root() -> PathBuf {
 /// The libraries that `crates.txt` lists, in its order. A program is none: no contract says what it writes.
 pub fn libraries(root: &Path) -> io::Result<Vec<String>> {
     let list = fs::read_to_string(root.join("crates.txt"))?;
-    let names = list
+    let lines = list
         .lines()
         .filter_map(|line| line.split('#').next()?.split_once(':'));
-    let names = names.map(|(name, _)| name.trim().to_string());
+    // After the name may stand what kind of crate it is.
+    let names = lines.filter_map(|(crate_, _)| crate_.split_whitespace().next());
     Ok(names
         .filter(|name| folder(root, name).join("lib.rt").exists())
+        .map(String::from)
         .collect())
 }
 

@@ -2,8 +2,10 @@
 
 pub mod page;
 
+use std::collections::hash_map::DefaultHasher;
 use std::env;
 use std::fs;
+use std::hash::{Hash, Hasher};
 use std::io::{ErrorKind, Write};
 use std::path::{Path, PathBuf};
 use std::process::{Child, ChildStdin, Command, Output, Stdio};
@@ -33,10 +35,14 @@ pub fn launcher() -> PathBuf {
     launcher
 }
 
-/// A folder of a test's own, empty, for what it writes.
+/// A folder of a test's own, empty, for what it writes. It is outside the checkout, in which rt allows no link, no second
+/// crates.txt and no source that is no crate's.
 pub fn scratch(name: &str) -> PathBuf {
     let root = root().canonicalize().expect("the repository is there");
-    let folder = root.join("target/scratch").join(name);
+    let mut of_checkout = DefaultHasher::new();
+    root.hash(&mut of_checkout);
+    let place = format!("tsendurkho-{:016x}", of_checkout.finish());
+    let folder = env::temp_dir().join(place).join(name);
     if folder.exists() {
         fs::remove_dir_all(&folder).expect("an earlier run's folder can go");
     }

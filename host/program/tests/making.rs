@@ -11,22 +11,28 @@ use program::{parts, root, scratch};
 
 const PROGRAM: &str = "target/bin/blockrun";
 const ARCHIVE: &str = "target/staticlib/libtsendurkho.a";
-const ASKED: [&str; 2] = ["check blockrun", "staticlib tsendurkho"];
+const ASKED: [&str; 2] = ["run blockrun", "lib tsendurkho"];
 
-/// It ends with the status that the file `status` has, once, and prints what `prints` has; it makes the run program only
-/// where that has no stamp, as rt does.
+/// It is asked in a crate's folder, and notes that crate and what it is asked for. It ends with the status that the file
+/// `status` has, once, and prints what `prints` has; a program it runs, too, on what it is given.
 const STAND_IN: &str = r#"#!/bin/sh
-echo "$*" >>asked
+crate=${PWD##*/}
+out=$PWD/out
+cd ../.. || exit
+echo "$1 $crate" >>asked
 cat prints 2>/dev/null
 if [ -f status ]; then
     status=$(cat status)
     rm status
     exit "$status"
 fi
-mkdir -p target/bin target/stamp target/staticlib
+mkdir -p "$out"
 case $1 in
-check) [ -f target/stamp/blockrun ] || echo "program of $(cat crates/only/src/lib.rt)" >target/bin/blockrun; echo >target/stamp/blockrun ;;
-staticlib) echo "archive of $(cat crates/only/src/lib.rt)" >target/staticlib/libtsendurkho.a ;;
+run)
+    echo "program of $(cat crates/only/src/lib.rt)" >"$out/$crate"
+    cat >given
+    ;;
+lib) echo "archive of $(cat crates/only/src/lib.rt)" >"$out/lib$crate.a" ;;
 esac
 "#;
 
@@ -46,11 +52,11 @@ const TABLE: &str = "# Figures
 const CRATES: &str = "# NAME: what it depends on
 only:
 other: only
-blockrun: only io
-tsendurkho: only
+blockrun: only
+tsendurkho staticlib: only
 ";
 
-/// A repository whose only sources are those of one crate.
+/// A repository whose products show the source of one crate.
 struct Repository(PathBuf);
 
 impl Repository {
@@ -64,6 +70,10 @@ impl Repository {
         assert!(copied.expect("cp starts").success());
         place.write("crates.txt", CRATES);
         place.write("crates/only/src/lib.rt", "first\n");
+        for name in ["other", "blockrun", "tsendurkho"] {
+            place.write(&format!("crates/{name}/src/lib.rt"), "of its own\n");
+        }
+        place.write("crates/blockrun/stdin", "a run file\n");
         place.write("docs/ECONOMY.md", TABLE);
         place.write_program("bin/rt", STAND_IN);
         place
@@ -89,10 +99,11 @@ impl Repository {
         fs::remove_file(self.0.join(file)).expect("the file is there");
     }
 
-    /// A stamp of rt's, of this time.
+    /// A stamp of rt's, of this time, of a library that it has built.
     fn stamp(&self, name: &str, time: &str) {
-        self.write(&format!("target/stamp/{name}"), "");
-        let stamp = self.0.join("target/stamp").join(name);
+        let file = format!("crates/{name}/out/rlib/stamp");
+        self.write(&file, "");
+        let stamp = self.0.join(file);
         let touched = Command::new("touch").args(["-d", time]).arg(stamp).status();
         assert!(touched.expect("touch starts").success());
     }
@@ -147,6 +158,7 @@ fn a_first_build_and_none_after_it() {
     let place = Repository::new("first-build");
     assert_eq!(place.asked(), ASKED);
     place.assert_made_of("first");
+    assert_eq!(place.read("given"), "a run file\n");
     assert!(place.asked().is_empty());
 }
 
@@ -155,7 +167,6 @@ fn a_first_build_and_none_after_it() {
 #[test]
 fn the_expected_time_is_that_of_what_is_to_be_proved() {
     let place = Repository::new("expected-time");
-    fs::create_dir_all(place.0.join("crates/blockrun")).expect("a folder can be made");
     for (kept, minutes) in [
         ("", "3 minutes"),
         ("only", "2 minutes"),
@@ -198,18 +209,17 @@ fn a_changed_source() {
     ];
     for change in changes {
         change();
-        // rt has no stamp of these sources.
-        place.remove("target/stamp/blockrun");
         assert_eq!(place.asked(), ASKED);
         assert!(place.asked().is_empty());
     }
     place.assert_made_of("first");
-    // The edits that must be refused are not part of what is built.
+    // The edits that must be refused are not part of what is built, and what rt keeps is none of the sources.
     place.write("crates/only/must-fail/one.edit", "new: second\n");
+    place.write("crates/only/out/incremental/judged", "second\n");
     assert!(place.asked().is_empty());
 }
 
-/// Whatever is gone or is another, as after a folder was half removed. rt does not see that the run program is gone.
+/// Whatever is gone or is another, as after a folder was half removed.
 #[test]
 fn a_product_that_is_gone_or_another() {
     let place = Repository::new("gone");
@@ -232,21 +242,20 @@ fn a_product_that_is_gone_or_another() {
     place.assert_made_of("first");
 }
 
-/// rt ends with 2 where it cannot read what it kept: then that is thrown away, and rt asked once more.
+/// rt ends with 2 where it cannot read a library that it built: then those are thrown away, and rt asked once more.
 #[test]
 fn what_rt_kept_is_damaged() {
     let place = Repository::new("damaged");
-    place.write("target/stamp/only", "");
+    place.stamp("only", "tomorrow");
+    place.write("crates/only/out/incremental/judged", "");
     place.write("status", "2");
     let ended = place.build();
     assert_eq!(
         (ended.status.code(), place.read("asked").as_str()),
-        (
-            Some(0),
-            "check blockrun\ncheck blockrun\nstaticlib tsendurkho\n"
-        )
+        (Some(0), "run blockrun\nrun blockrun\nlib tsendurkho\n")
     );
-    assert!(!place.0.join("target/stamp/only").exists());
+    assert!(!place.0.join("crates/only/out/rlib").exists());
+    assert!(place.0.join("crates/only/out/incremental/judged").exists());
     place.assert_made_of("first");
 }
 
@@ -316,7 +325,9 @@ fn on_a_terminal_the_line_is_overwritten_and_cleared() {
     let place = Repository::new("terminal");
     place.write(
         "prints",
-        "rt: only proved (3 s)\nother\nrt: more proved (unchanged since it was last proved)\n",
+        "fn only::one: proved\ncrate only: modules loaded=9 checked=3\nlogic=proved functions=1 sum=0\nother\n\
+         crate worse: modules loaded=9 checked=3\nlogic=not-proved\n\
+         crate more: modules loaded=9 checked=0\naxioms libc: none reached of the 128 declared\nlogic=proved functions=2 sum=0\n",
     );
     let clear = "\r\x1b[K";
     let line = |text: &str| format!("{clear}tsendurkho: proving{text}");
@@ -361,9 +372,9 @@ fn another_build_under_way() {
     // Each time it waits until something may be read.
     place.write(
         "bin/rt",
-        &STAND_IN.replacen("echo \"$*\"", "read -r _ <\"$1.gate\"\necho \"$*\"", 1),
+        &STAND_IN.replacen("echo \"$1", "read -r _ <\"$1.gate\"\necho \"$1", 1),
     );
-    let gates = ["check.gate", "staticlib.gate"].map(|name| place.0.join(name));
+    let gates = ["run.gate", "lib.gate"].map(|name| place.0.join(name));
     assert!(Command::new("mkfifo")
         .args(&gates)
         .status()
