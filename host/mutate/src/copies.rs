@@ -19,7 +19,7 @@ impl Workplace {
         let folder = env::temp_dir().join(format!("mutate-{}", process::id()));
         fs::create_dir(&folder)?;
         let place = Workplace { folder };
-        duplicate(root, &place.sound(), copy)?;
+        copy_sources(root, &place.sound())?;
         Ok(place)
     }
 
@@ -32,11 +32,19 @@ impl Workplace {
         prove(&self.sound(), library)
     }
 
-    /// A copy in which one mutant at a time is tried. All that the crate depends on is proved by now.
+    /// A copy in which one mutant at a time is tried. All that the crate depends on is proved and built by now.
     pub fn bench(&self, library: &str, number: usize) -> io::Result<Bench> {
         let sound = self.sound();
         let folder = self.folder.join(format!("{library}-{number}"));
-        duplicate(&sound, &folder, link)?;
+        copy_sources(&sound, &folder)?;
+        for crate_ in fs::read_dir(sound.join("crates"))? {
+            let built = Path::new("crates")
+                .join(crate_?.file_name())
+                .join("out/rlib");
+            if sound.join(&built).exists() {
+                mirror(&sound.join(&built), &folder.join(&built), link)?;
+            }
+        }
         Ok(Bench { sound, folder })
     }
 }
@@ -54,14 +62,19 @@ pub struct Bench {
 }
 
 impl Bench {
-    /// Only the parts that the edit changes are proved again: the prover still knows the others. It replaces the files
-    /// in which it keeps that and never writes into one, so links to those of the unmutated crate are enough.
+    /// Only the parts that the edit changes are proved again: the prover begins with what it kept of the unmutated crate.
     pub fn try_mutant(&self, mutant: &Mutant) -> io::Result<(Verdict, String)> {
-        let known = Path::new("target/inc").join(&mutant.library);
+        let known = Path::new("crates")
+            .join(&mutant.library)
+            .join("out/incremental");
         if self.folder.join(&known).exists() {
             fs::remove_dir_all(self.folder.join(&known))?;
         }
-        mirror(&self.sound.join(&known), &self.folder.join(&known), link)?;
+        mirror(
+            &self.sound.join(&known),
+            &self.folder.join(&known),
+            link_proved,
+        )?;
         let file = Path::new("crates").join(&mutant.file);
         let text = fs::read_to_string(self.sound.join(&file))?;
         fs::write(self.folder.join(&file), mutant.edit.apply(&text))?;
@@ -73,16 +86,18 @@ impl Bench {
 
 type Put = fn(&Path, &Path) -> io::Result<()>;
 
-/// Copies the sources, and puts what was proved beside them, so that it is not proved again.
-fn duplicate(from: &Path, to: &Path, put: Put) -> io::Result<()> {
-    mirror(&from.join("crates"), &to.join("crates"), copy)?;
-    copy(&from.join("crates.txt"), &to.join("crates.txt"))?;
-    for proved in ["target/rlib", "target/stamp"] {
-        if from.join(proved).exists() {
-            mirror(&from.join(proved), &to.join(proved), put)?;
+/// Copies the sources alone: what rt proved elsewhere on this machine it finds by itself.
+fn copy_sources(from: &Path, to: &Path) -> io::Result<()> {
+    for crate_ in fs::read_dir(from.join("crates"))? {
+        for part in fs::read_dir(crate_?.path())? {
+            let part = part?.path();
+            let inside = part.strip_prefix(from).expect("it is below the folder");
+            if part.is_dir() && !part.ends_with("out") {
+                mirror(&part, &to.join(inside), copy)?;
+            }
         }
     }
-    Ok(())
+    copy(&from.join("crates.txt"), &to.join("crates.txt"))
 }
 
 /// Puts each file of a folder into another one.
@@ -104,6 +119,15 @@ fn copy(from: &Path, to: &Path) -> io::Result<()> {
     fs::copy(from, to).map(|_| ())
 }
 
+/// rt replaces the files of a library that it builds, and never writes into one.
 fn link(from: &Path, to: &Path) -> io::Result<()> {
     fs::hard_link(from, to)
+}
+
+/// So it does with the files of what it proved; into the others that it keeps it may write.
+fn link_proved(from: &Path, to: &Path) -> io::Result<()> {
+    match from.extension() {
+        Some(kind) if kind == "oantt" => link(from, to),
+        _ => copy(from, to),
+    }
 }

@@ -1,7 +1,7 @@
 //! What the prover says of a crate.
 
 use std::io;
-use std::path::Path;
+use std::path::{Path, PathBuf};
 use std::process::{Command, Output};
 
 #[derive(Clone, Copy, Debug, PartialEq, Eq)]
@@ -22,7 +22,8 @@ const TIME_LIMIT: &str = "120";
 /// Proves a crate as it is, and whatever it depends on. An error has what the prover printed.
 pub fn prove(folder: &Path, library: &str) -> io::Result<()> {
     let mut command = Command::new("rt");
-    let reason = match command.args(["dev", library]).current_dir(folder).output() {
+    let command = command.arg("check").current_dir(place(folder, library));
+    let reason = match command.output() {
         Ok(output) if output.status.success() => return Ok(()),
         Ok(output) => format!("{library} is not proved as it is:\n{}", printed(&output)),
         Err(error) => format!("rt, the prover's command, cannot be started: {error}"),
@@ -30,11 +31,17 @@ pub fn prove(folder: &Path, library: &str) -> io::Result<()> {
     Err(io::Error::new(io::ErrorKind::Other, reason))
 }
 
-/// Asks about a crate whose dependencies are proved.
+/// Where rt is asked about a crate.
+fn place(folder: &Path, library: &str) -> PathBuf {
+    folder.join("crates").join(library)
+}
+
+/// Asks about a crate whose dependencies are proved. Others are tried beside it, so rt is to use one processor.
 pub fn ask(folder: &Path, library: &str) -> io::Result<(Verdict, String)> {
     let mut command = Command::new("timeout");
-    command.args(["--kill-after=5", TIME_LIMIT, "rt", "dev", library]);
-    let output = command.current_dir(folder).output()?;
+    command.args(["--kill-after=5", TIME_LIMIT]);
+    command.args(["rt", "check", "--jobs", "1"]);
+    let output = command.current_dir(place(folder, library)).output()?;
     let text = printed(&output);
     Ok((verdict(output.status.code(), &text), text))
 }

@@ -42,12 +42,15 @@ fn comments_have_no_tokens() {
 
 #[test]
 fn the_provers_text_has_no_tokens() {
-    let source = "ghost use lib.{a, b}; fn f(x: u8) -> u8
+    let source = "#![tactic(auto)]
+        ghost use lib.{a, b}; fn f(x: u8) -> u8
         ghost { ℕ }
-        requires { ⌜ x' {A = ℕ} < 3 ⌝ }
-        ensures { λ r. ⌜ r ≡ x ⌝ } { x }";
+        requires { x' {A = ℕ} < 3 }
+        ensures low { result ≤ x }
+        ensures high { OnOk result (x < 3) } { x }";
     let code = [
-        "fn", "f", "(", "x", ":", "u8", ")", "->", "u8", "{", "x", "}",
+        "#", "!", "[", "tactic", "(", "auto", ")", "]", "fn", "f", "(", "x", ":", "u8", ")", "->",
+        "u8", "{", "x", "}",
     ];
     assert_eq!(texts(source), code);
 }
@@ -57,7 +60,7 @@ fn the_parts_are_bodies_and_constant_values() {
     let source = "use a::b;
         const SIZE: [u8; 2] = [1, 2];
         struct S { x: u8 }
-        impl S { fn one(self) -> u32 ensures { λ r. ⌜ r ≡ 1 ⌝ } { 1 } }
+        impl S { fn one(self) -> u32 ensures { result ≡ 1 } { 1 } }
         fn none(x: &mut [u8; 3]) {}";
     let code = Code::new(source);
     let parts: Vec<_> = code
