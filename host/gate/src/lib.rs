@@ -3,7 +3,8 @@
 pub mod pages;
 
 use std::env;
-use std::fs;
+use std::fs::{self, Permissions};
+use std::os::unix::fs::PermissionsExt;
 use std::path::PathBuf;
 use std::process::{Command, Output};
 
@@ -72,9 +73,20 @@ impl Copy {
         self.write(file, &(text + more));
     }
 
-    /// How a script ends here.
+    /// Something in the place of a command.
+    pub fn write_program(&self, name: &str, text: &str) {
+        let file = format!("bin/{name}");
+        self.write(&file, text);
+        fs::set_permissions(self.path(&file), Permissions::from_mode(0o755))
+            .expect("it can be made a program");
+    }
+
+    /// How a script ends here. The commands in `bin` come first.
     pub fn run(&self, script: &str) -> Ended {
-        let output = Command::new("bash").arg(self.path(script)).output();
+        let others = env::var("PATH").unwrap_or_default();
+        let path = format!("{}:{others}", self.path("bin").display());
+        let mut bash = Command::new("bash");
+        let output = bash.arg(self.path(script)).env("PATH", path).output();
         Ended(output.expect("the script starts"))
     }
 }
@@ -91,6 +103,14 @@ pub struct Ended(Output);
 impl Ended {
     pub fn printed(&self) -> String {
         String::from_utf8_lossy(&self.0.stdout).into_owned()
+    }
+
+    pub fn last_line(&self) -> String {
+        self.printed().lines().last().unwrap_or("").to_string()
+    }
+
+    pub fn is_well(&self) -> bool {
+        self.0.status.success()
     }
 
     fn reported(&self) -> String {
