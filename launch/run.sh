@@ -15,6 +15,10 @@ run() { # [FILE]
     exec 3>&1
     status=0
     reports=$(start 2>&1 >&3 3>&- 4<&-) || status=$?
+    if reader_is_gone "$reports"; then
+        status=141
+        reports=$(printf '%s\n' "$reports" | grep -vxF "$unwritten" || :)
+    fi
     while IFS= read -r report; do
         say_report "$report" "$@"
     done <<REPORTS
@@ -25,6 +29,17 @@ REPORTS
     *'blockrun: refused '*) [ "$status" -ne 0 ] || status=3 ;;
     esac
     exit "$status"
+}
+
+unwritten='blockrun: the output could not be written'
+
+# A write into a pipe fails only if nobody reads from it any more. The system then ends a program by signal 13, unless that is
+# ignored; Rattle's programs ignore it always.
+reader_is_gone() { # REPORTS
+    case $1 in
+    *"$unwritten"*) { [ -p /dev/fd/3 ] || [ -S /dev/fd/3 ]; } && ! (sh -c 'kill -s PIPE $$') 2>/dev/null ;;
+    *) return 1 ;;
+    esac
 }
 
 say_report() { # REPORT [FILE]
