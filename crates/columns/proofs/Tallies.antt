@@ -38,7 +38,8 @@ tally_more heard m t u x long e l T = record { counts = λ j lj. go j lj (eqb x 
         (get_or-set_same t x (get_or t x 0 + 1) 0 (omega arith) ∙ ap (λ (k : ℕ). k + 1) (T.counts x l) ∙ sym (sent_yes heard u (Count x) e))
     go j lj false q =
         let ne : x ≡ j → ⊥ = eqb-false x j q in
-        get_or-set_other t x j (get_or t x 0 + 1) 0 (λ r. ne (sym r)) ∙ T.counts j lj ∙ sym (sent_no heard u (Count j) (λ r. ne (cc (e, r))))
+        get_or-set_other t x j (get_or t x 0 + 1) 0 (λ r. ne (sym r)) ∙ T.counts j lj
+        ∙ sym (sent_no heard u (Count j) (λ r. ne (cc (e, r))))
 
 -- a card whose vote does not
 pub tally_same : (heard : ℕ → Vote) (m : ℕ) (t : List ℕ) (u : ℕ) → heard u ≡ None → Tally heard m t u → Tally heard m t (u + 1)

@@ -25,7 +25,10 @@ module _ (n f c : ℕ) (sound : ℕ → Bool) (good : counter_refusal n f c 0 �
 
   heard_length : (held lies : ℕ → List ℕ) → length (heard_of held lies) ≡ 2 * (n * record_words f)
   unfolding heard_of record_of_lem
-  heard_length held lies = omega (arith, rows_length n (record_bytes f) (record_of_lem held lies) (λ u l. tabulate_length (record_bytes f) _))
+  heard_length held lies = omega (
+    arith,
+    rows_length n (record_bytes f) (record_of_lem held lies) (λ u l. tabulate_length (record_bytes f) _),
+  )
 
   heard_at : (held lies : ℕ → List ℕ) (u j : ℕ) → u < n → j < record_bytes f
       → get_or (heard_of held lies) (u * record_bytes f + j) 0 ≡ get_or (cond (sound u) (held u) (lies u)) j 0

@@ -15,7 +15,8 @@ use Rattle.rules.specs.Groups.{word_of}
 use Rattle.rules.specs.Refusals.{beat_refusal}
 use Rattle.rules.specs.Text.{well_formed, words_at, lines_of}
 use Rattle.rules.specs.RunFile.{Header, header_tests, header_digits, header_of, header_refusal, start_words, beat_words, last_beat, beat_of}
-use Rattle.rules.specs.RunFile.{start_line_refusal, beat_line_refusal, shown_word, output_line, refusal_line, Stage, at_header, at_start, at_beat}
+use Rattle.rules.specs.RunFile.{start_line_refusal, beat_line_refusal, shown_word, output_line, refusal_line, Stage, at_header}
+use Rattle.rules.specs.RunFile.{at_start, at_beat}
 use Rattle.rules.specs.RunFile.{accepted, or_refused, take_line, at_end, continued, run_lines, run_text}
 use Rattle.rules.proofs.Tests.{decided, never}
 use Rattle.rules.proofs.Shapes.{not_given, counter_accepted}

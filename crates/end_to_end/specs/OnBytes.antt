@@ -49,4 +49,5 @@ RunsFromAnyStart =
     (n f c : ℕ) (sound : ℕ → Bool) → counter_refusal n f c 0 ≡ 0 → (start : ℕ → List ℕ) (told : ℕ → ℕ → ℕ → List ℕ)
     → (R : ByteRun n f c sound)
     × ((v : ℕ) → R.holds 0 v ≡ start v)
-    × ((r v u j : ℕ) → u < n → sound u ≡ false → j < record_bytes f → get_or (R.hears r v) (u * record_bytes f + j) 0 ≡ get_or (told r v u) j 0)
+    × ((r v u j : ℕ) → u < n → sound u ≡ false → j < record_bytes f → get_or (R.hears r v) (u * record_bytes f + j) 0
+    ≡ get_or (told r v u) j 0)

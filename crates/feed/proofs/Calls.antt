@@ -140,7 +140,8 @@ unfolding taken_line
 taken_not_0 stage line = none_refused (stage_tests stage) (take_line stage line) (line_not_0 stage line)
 
 -- a refused line is at its end
-pub ends_refused : (stage : KeptStage) (t : Taken) (table out line : List ℕ) (r : Answer) (table_next out_next out_last : List ℕ) (written : ℕ)
+pub ends_refused : (stage : KeptStage) (t : Taken) (table out line : List ℕ) (r : Answer) (table_next out_next out_last : List ℕ)
+    (written : ℕ)
     → Takes stage t table out r table_next out_next → (r.refusal ≡ 0 → ⊥)
     → written ≡ length (refusal_line (number_of stage) r.refusal) → out_last ≡ sets out_next 0 (refusal_line (number_of stage) r.refusal)
     → Stands (after_line (stage_of stage table) [] t) Stopped written table out line table_next out_last
@@ -261,7 +262,8 @@ stopped_stands part line table out =
 pub feeds_reading : (stage : KeptStage) (held at from end next : ℕ) (piece line table out line_next table_next out_next : List ℕ)
     (feed : Feed) (written : ℕ) → from ≡ place_in piece at → end ≡ end_from piece from → next ≡ next_of piece end
     → FeedsPart stage held piece from end line table out feed written line_next table_next out_next
-    → Feeds (Reading stage held) piece at line table out (record { feed = feed; next = next; written = written }) line_next table_next out_next
+    → Feeds (Reading stage held) piece at line table out (record { feed = feed; next = next; written = written }) line_next table_next
+    out_next
 unfolding line_after
 feeds_reading stage held at from end next piece line table out line_next table_next out_next feed written p e n f =
     let q : end ≡ line_end piece at = e ∙ rw p in

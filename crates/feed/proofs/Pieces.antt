@@ -175,7 +175,8 @@ unfolding line_length
 feed_there [] l = absurd (omega arith)
 feed_there (ch ∷ rest) l = ⊎_elim
     (λ (z : eqb ch line_feed ≡ true). rw z (eqb-true ch line_feed z))
-    (λ (z : eqb ch line_feed ≡ false). let k : suc (line_length rest) < suc (length rest) = rw z at l in rw z (feed_there rest (omega arith)))
+    (λ (z : eqb ch line_feed ≡ false). let k : suc (line_length rest) < suc (length rest) = rw z at l in
+    rw z (feed_there rest (omega arith)))
     (decided (eqb ch line_feed))
 
 -- and at the line feed the line is at its end

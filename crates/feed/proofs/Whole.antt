@@ -75,7 +75,8 @@ one_part feed part rest =
     let m = fed feed part in
     sym (finished_wrote (written_by m) (fed (going_on m) rest))
     ∙ ap finished
-    (sym (fed_wrote (written_by m) (going_on m) rest) ∙ ap (λ (f : Machine). fed f rest) (written_before m) ∙ sym (fed_append feed part rest))
+    (sym (fed_wrote (written_by m) (going_on m) rest) ∙ ap (λ (f : Machine). fed f rest) (written_before m)
+    ∙ sym (fed_append feed part rest))
 
 -- where the calls start
 starts : (line table : List ℕ) → machine_of (Reading AtHeader 0) line table ≡ start

@@ -101,7 +101,8 @@ pub record FeedsPart (stage : KeptStage) (held : ℕ) (piece : List ℕ) (from e
     (feed : Feed) (written : ℕ) (line_next table_next out_next : List ℕ) : Type 0 where
   pub held_is : line_next ≡ held_with line held (take (end - from) (drop from piece))
   pub stands :
-      Stands (fed (machine_of (Reading stage held) line table) (part_to piece from end)) feed written table out line_next table_next out_next
+      Stands (fed (machine_of (Reading stage held) line table) (part_to piece from end)) feed written table out line_next table_next
+      out_next
 
 -- the buffer of the line when a piece was fed from a place on
 unfoldable pub line_after : Feed → List ℕ → ℕ → List ℕ → List ℕ

@@ -9,7 +9,8 @@ use Rattle.rules.specs.OneBeat.{Standing, sent_by, enough, most_sent, most_frequ
 use Rattle.rules.specs.OneBeat.{step1, step2, supported, obeyed, gained, leaf_next, group_next, padded, next_record, shown_count}
 use Rattle.rules.specs.WholeBeat.{is_broken, broken_below, bad_set, heard_on_beat, held_record, record_after, table_after}
 use Rattle.rules.specs.Lag.{nearest, lag_of}
-use Rattle.rules.specs.Text.{digit_of, is_digit, value_of, hex_of, number_at, all_digits, well_formed, words_at, line_feed, one_more, in_front}
+use Rattle.rules.specs.Text.{digit_of, is_digit, value_of, hex_of, number_at, all_digits, well_formed, words_at, line_feed, one_more}
+use Rattle.rules.specs.Text.{in_front}
 use Rattle.rules.specs.Text.{lines_of}
 use Rattle.rules.specs.RunFile.{header_of, header_refusal, start_line_refusal, beat_line_refusal, shown_word, output_line, refusal_line}
 use Rattle.rules.specs.RunFile.{or_refused, take_line, at_end, continued, run_lines, run_text}
@@ -67,8 +68,9 @@ starred =
     ∷ []
 
 pub starred_hold : map (λ (k : Case). k.got) starred ≡ map (λ (k : Case). k.printed) starred
-unfolding starred count_below largest_below least or_else count_or0 same digits_in binary_digits read_vote word_of sent_by enough most_sent
-    most_frequent vote follows cooldown pointer step0 step1 step2 supported obeyed gained leaf_next group_next padded next_record nearest lag_of
+unfolding starred count_below largest_below least or_else count_or0 same digits_in binary_digits read_vote word_of sent_by enough
+    most_sent most_frequent vote follows cooldown pointer step0 step1 step2 supported obeyed gained leaf_next group_next padded
+    next_record nearest lag_of
 starred_hold = refl
 
 -- a line of a run file, by its number of digits and the number that they make
@@ -86,8 +88,8 @@ started = line 12 0x000000020001
 pub worked_run :
     (run_text (opening ++ line 4 1 ++ line 4 2) ≡ started ++ line 12 0x000100000000 ++ line 12 0x000200010001)
     × (run_text (opening ++ line 4 2 ++ line 4 2) ≡ started ++ line 14 0xffff000000030b)
-unfolding count_below largest_below least or_else count_or0 same rows digits_in binary_digits read_vote word_of leaf_next group_next padded next_record
-    shown_count is_broken broken_below bad_set heard_on_beat held_record record_after table_after digit_of is_digit value_of hex_of number_at all_digits
-    well_formed words_at one_more in_front lines_of header_of header_refusal start_line_refusal beat_line_refusal shown_word output_line refusal_line
-    or_refused take_line at_end continued run_lines run_text
+unfolding count_below largest_below least or_else count_or0 same rows digits_in binary_digits read_vote word_of leaf_next group_next
+    padded next_record shown_count is_broken broken_below bad_set heard_on_beat held_record record_after table_after digit_of is_digit
+    value_of hex_of number_at all_digits well_formed words_at one_more in_front lines_of header_of header_refusal start_line_refusal
+    beat_line_refusal shown_word output_line refusal_line or_refused take_line at_end continued run_lines run_text
 worked_run = (refl, refl)

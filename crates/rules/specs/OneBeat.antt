@@ -1,10 +1,12 @@
 -- RULES 5: one beat of one card. "Everything on the right of a rule is from before the beat."
-use Rattle.std.specs.Prelude.{ℕ, zero, suc, ◌+◌, ◌*◌, ◌-◌, ◌/◌, ◌%◌, Bool, true, false, cond, List, [], ◌∷◌, ◌++◌, eqb, ltb, leb, length, replicate}
+use Rattle.std.specs.Prelude.{ℕ, zero, suc, ◌+◌, ◌*◌, ◌-◌, ◌/◌, ◌%◌, Bool, true, false, cond, List, [], ◌∷◌, ◌++◌, eqb, ltb, leb}
+use Rattle.std.specs.Prelude.{length, replicate}
 use Rattle.rules.specs.declared.Vote.{Vote}
 use Rattle.rules.specs.declared.Vote.TheVariants.{Count, None}
 use Rattle.rules.specs.Counting.{count_below, largest_below, least, or_else, count_or0, same}
 use Rattle.rules.specs.Parameters.{turn, restart, record_words}
-use Rattle.rules.specs.Groups.{at_half, half_cards, half_first, half_broken, half_modulus, half_of, heard_in_half, output_of, sent_m, kept_vote}
+use Rattle.rules.specs.Groups.{at_half, half_cards, half_first, half_broken, half_modulus, half_of, heard_in_half, output_of, sent_m}
+use Rattle.rules.specs.Groups.{kept_vote}
 use Rattle.rules.specs.Groups.{kept_wait, kept_b, word_of, bit_of}
 
 -- one more, on a circle of c

@@ -1,5 +1,6 @@
 -- RULES 10.2 and 10.3: digits, the text of a record, lines.
-use Rattle.std.specs.Prelude.{ℕ, zero, suc, ◌+◌, ◌*◌, ◌-◌, ◌/◌, ◌%◌, ◌^◌, Bool, true, cond, ◌&&◌, ◌||◌, List, [], ◌∷◌, eqb, ltb, leb, length, get_or, take}
+use Rattle.std.specs.Prelude.{ℕ, zero, suc, ◌+◌, ◌*◌, ◌-◌, ◌/◌, ◌%◌, ◌^◌, Bool, true, cond, ◌&&◌, ◌||◌, List, [], ◌∷◌, eqb, ltb, leb}
+use Rattle.std.specs.Prelude.{length, get_or, take}
 use Rattle.rules.specs.Counting.{rows, tabulate}
 
 -- the character of a digit below 16. RULES 10.2: "digits 0-9 and a-f, lower case, the high digit first"

@@ -46,7 +46,8 @@ pair_more word to place j =
     )
 
 -- all of them
-pub pairs_are : (from : List ℕ) (at count : ℕ) → rows count (pair_of (λ (j : ℕ). get_or from (at + j) 0)) ≡ bytes_of (words_from from at count)
+pub pairs_are : (from : List ℕ) (at count : ℕ) → rows count (pair_of (λ (j : ℕ). get_or from (at + j) 0))
+    ≡ bytes_of (words_from from at count)
 unfolding bytes_of
 pairs_are from at count =
     let word : ℕ → ℕ = λ j. get_or from (at + j) 0 in

@@ -6,7 +6,8 @@ use Rattle.blockrun.proofs.run_piece.Given as goal
 
 abbrev pub invariant-loop-at : goal.invariant-loop-at
 invariant-loop-at l =
-    going_on (fed (machine_of l.state l.line l.table) (drop l.at l.piece)) ≡ going_on (fed (machine_of l.fn.before l.fn.line l.fn.table) l.piece)
+    going_on (fed (machine_of l.state l.line l.table) (drop l.at l.piece))
+    ≡ going_on (fed (machine_of l.fn.before l.fn.line l.fn.table) l.piece)
 
 abbrev pub decreases-loop-at : goal.decreases-loop-at
 decreases-loop-at l = length l.piece - l.at

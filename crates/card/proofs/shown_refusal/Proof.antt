@@ -12,7 +12,8 @@ use Rattle.card.proofs.shown_refusal.Tie as tie
 refused : tie.Need-returns-then-refusal-ne0
 refused c =
     let a = c.args in
-    counter_refused a.n a.f a.c ((λ (w : ℕ). given 5 (wrong c.args.words w) 0) (record_words a.f)) _ c.counter_refusal-refusal.ensures c.if-refusal-ne0.true
+    counter_refused a.n a.f a.c ((λ (w : ℕ). given 5 (wrong c.args.words w) 0) (record_words a.f)) _ c.counter_refusal-refusal.ensures
+    c.if-refusal-ne0.true
 
 -- refusals 1 to 3 are not given
 later : (c : tie.After-record_words)
@@ -24,7 +25,8 @@ later c =
     let s = t.before in
     let a = s.args in
     rw c.record_words.ensures
-    (counter_passed a.n a.f a.c ((λ (w : ℕ). given 5 (wrong c.args.words w) 0) (record_words a.f)) _ t.counter_refusal-refusal.ensures c.if-refusal-ne0.false)
+    (counter_passed a.n a.f a.c ((λ (w : ℕ). given 5 (wrong c.args.words w) 0) (record_words a.f)) _ t.counter_refusal-refusal.ensures
+    c.if-refusal-ne0.false)
 
 pub shown_refusal_spec : {M : Type 1} → statement M
 shown_refusal_spec =

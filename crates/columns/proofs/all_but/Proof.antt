@@ -28,20 +28,25 @@ tested c =
 
 too_many : tie.Need-returns-then-left-eq0 invariant-loop decreases-loop
 too_many c =
-    let z = count_no c.loop-u.u (λ (v : ℕ). lies c.args.low c.args.high (word_in c.args.recs.now c.args.col v)) (sym (tested c.before.before) ∙ not-true _ c.if-not-lies.true-raw) in
-    sym (never_enough (λ (v : ℕ). lies c.args.low c.args.high (word_in c.args.recs.now c.args.col v)) c.args.col.n c.args.spare (c.loop-u.u + 1) (omega arith) (omega (arith, z)))
+    let z = count_no c.loop-u.u (λ (v : ℕ). lies c.args.low c.args.high (word_in c.args.recs.now c.args.col v))
+    (sym (tested c.before.before) ∙ not-true _ c.if-not-lies.true-raw) in
+    sym (never_enough (λ (v : ℕ). lies c.args.low c.args.high (word_in c.args.recs.now c.args.col v)) c.args.col.n c.args.spare
+    (c.loop-u.u + 1) (omega arith) (omega (arith, z)))
 
 loop_again : tie.Need-loop-u-preserved invariant-loop decreases-loop
 loop_again c =
     let e = sym (tested c.before) in
     ⊎_elim
-    (λ w. let z = count_no c.loop-u.u (λ (v : ℕ). lies c.args.low c.args.high (word_in c.args.recs.now c.args.col v)) (e ∙ not-true _ w.if-not-lies.true-raw) in (omega arith, refl, omega (arith, z)))
-    (λ w. let z = count_yes c.loop-u.u (λ (v : ℕ). lies c.args.low c.args.high (word_in c.args.recs.now c.args.col v)) (e ∙ not-false _ w.if-not-lies.false-raw) in (omega arith, refl, omega (arith, z)))
+    (λ w. let z = count_no c.loop-u.u (λ (v : ℕ). lies c.args.low c.args.high (word_in c.args.recs.now c.args.col v))
+    (e ∙ not-true _ w.if-not-lies.true-raw) in (omega arith, refl, omega (arith, z)))
+    (λ w. let z = count_yes c.loop-u.u (λ (v : ℕ). lies c.args.low c.args.high (word_in c.args.recs.now c.args.col v))
+    (e ∙ not-false _ w.if-not-lies.false-raw) in (omega arith, refl, omega (arith, z)))
     c.if-not-lies.branch-raw
 
 few : tie.Need-returns invariant-loop decreases-loop
 few c =
-    sym (enough_of_all (λ (v : ℕ). lies c.args.low c.args.high (word_in c.args.recs.now c.args.col v)) c.args.col.n c.args.spare c.loop-u.u (omega arith) (omega arith))
+    sym (enough_of_all (λ (v : ℕ). lies c.args.low c.args.high (word_in c.args.recs.now c.args.col v)) c.args.col.n c.args.spare
+    c.loop-u.u (omega arith) (omega arith))
 
 pub all_but_spec : {M : Type 1} → statement M
 all_but_spec =

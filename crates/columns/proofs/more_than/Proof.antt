@@ -27,20 +27,25 @@ tested c =
 
 more : tie.Need-returns-then-left-eq0 invariant-loop decreases-loop
 more c =
-    let z = count_yes c.loop-u.u (λ (v : ℕ). lies c.args.low c.args.high (word_in c.args.recs.now c.args.col v)) (sym (tested c.before.before) ∙ c.if-lies.true) in
-    sym (more_already (λ (v : ℕ). lies c.args.low c.args.high (word_in c.args.recs.now c.args.col v)) c.args.col.n c.args.few (c.loop-u.u + 1) (omega arith) (omega (arith, z)))
+    let z = count_yes c.loop-u.u (λ (v : ℕ). lies c.args.low c.args.high (word_in c.args.recs.now c.args.col v))
+    (sym (tested c.before.before) ∙ c.if-lies.true) in
+    sym (more_already (λ (v : ℕ). lies c.args.low c.args.high (word_in c.args.recs.now c.args.col v)) c.args.col.n c.args.few
+    (c.loop-u.u + 1) (omega arith) (omega (arith, z)))
 
 loop_again : tie.Need-loop-u-preserved invariant-loop decreases-loop
 loop_again c =
     let e = sym (tested c.before) in
     ⊎_elim
-    (λ w. let z = count_yes c.loop-u.u (λ (v : ℕ). lies c.args.low c.args.high (word_in c.args.recs.now c.args.col v)) (e ∙ w.if-lies.true) in (omega arith, refl, omega (arith, z)))
-    (λ w. let z = count_no c.loop-u.u (λ (v : ℕ). lies c.args.low c.args.high (word_in c.args.recs.now c.args.col v)) (e ∙ w.if-lies.false) in (omega arith, refl, omega (arith, z)))
+    (λ w. let z = count_yes c.loop-u.u (λ (v : ℕ). lies c.args.low c.args.high (word_in c.args.recs.now c.args.col v))
+    (e ∙ w.if-lies.true) in (omega arith, refl, omega (arith, z)))
+    (λ w. let z = count_no c.loop-u.u (λ (v : ℕ). lies c.args.low c.args.high (word_in c.args.recs.now c.args.col v))
+    (e ∙ w.if-lies.false) in (omega arith, refl, omega (arith, z)))
     c.if-lies.branch-raw
 
 no_more : tie.Need-returns invariant-loop decreases-loop
 no_more c =
-    sym (never_more (λ (v : ℕ). lies c.args.low c.args.high (word_in c.args.recs.now c.args.col v)) c.args.col.n c.args.few c.loop-u.u (omega arith) (omega arith))
+    sym (never_more (λ (v : ℕ). lies c.args.low c.args.high (word_in c.args.recs.now c.args.col v)) c.args.col.n c.args.few c.loop-u.u
+    (omega arith) (omega arith))
 
 pub more_than_spec : {M : Type 1} → statement M
 more_than_spec =

@@ -48,7 +48,8 @@ loop_again c =
       c.loop-u.invariant.1,
       c.loop-u.invariant.2,
       below_more (λ (v : ℕ). word v < c.loop-u.best → sent_by a.col.n votes (Count (word v)) ≤ a.f) u
-          c.loop-u.invariant.3 (λ k. rw (← e) (omega (arith, sent (omega arith), ltb-false a.f times (sym w.more_than.ensures ∙ w.if-more_than.false)))),
+          c.loop-u.invariant.3 (λ k. rw (← e)
+          (omega (arith, sent (omega arith), ltb-false a.f times (sym w.more_than.ensures ∙ w.if-more_than.false)))),
     ))
     (λ w. rw w.best-is (
       omega arith,
@@ -62,7 +63,8 @@ loop_again c =
 -- what was sent and lies below the best is not supported
 passed : (c : tie.After-loop-u invariant-loop decreases-loop)
     → let n = c.args.col.n in
-    (v x : ℕ) → v < n → (votes_in c.args.c c.args.recs.now c.args.col) v ≡ Count x → x < c.loop-u.best → sent_by n (votes_in c.args.c c.args.recs.now c.args.col) (Count x) ≤ c.args.f
+    (v x : ℕ) → v < n → (votes_in c.args.c c.args.recs.now c.args.col) v ≡ Count x → x < c.loop-u.best
+    → sent_by n (votes_in c.args.c c.args.recs.now c.args.col) (Count x) ≤ c.args.f
 passed c v x lv e l =
     let a = c.args in
     let s : word_in a.recs.now a.col v ≡ x = (read_is a.c (word_in a.recs.now a.col v) x e).0 in

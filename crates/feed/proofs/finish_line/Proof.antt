@@ -25,7 +25,8 @@ none c =
 stands : (c : tie.After-end_line-ended)
     → let a = c.args in
     let e = c.end_line-ended in
-    Stands (ended (stage_of a.stage a.table.now) (take a.held a.line.now) []) e.result.feed e.result.written a.table.now a.out.now a.line.now
+    Stands (ended (stage_of a.stage a.table.now) (take a.held a.line.now) []) e.result.feed e.result.written a.table.now a.out.now
+    a.line.now
     e.new.table e.new.out
 stands c = rw (c.least.ensures, held_min c.args.line.now c.args.held c.requires.line_size) at c.end_line-ended.ensures
 

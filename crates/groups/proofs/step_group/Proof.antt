@@ -10,7 +10,11 @@ step_group_spec =
     (λ c κs. let start = c.before.before.before.before.before in
     record { fits = start.requires.fits; none = c.if-g-eq0.true; place = omega (arith, start.requires.words) })
     (λ c κs. let start = c.before.before.before.before.before in
-    record { split = record { fits = start.requires.fits; some = omega arith }; member = start.requires.member; words = start.requires.words })
+    record {
+      split = record { fits = start.requires.fits; some = omega arith };
+      member = start.requires.member;
+      words = start.requires.words;
+    })
     (λ c. c.step_leaf.auto.out)
     (λ c. let start = c.before.before.before.before.before.before.before.before in
     c.step_leaf.ensures start.args.card)

@@ -13,6 +13,16 @@ shape_refusal_spec =
     (λ c. simp (ne_eqb _ _ c.if-n-eq0.false, le-ltb _ _ c.if-n-gt-MOST_CARDS.false, lt-ltb _ _ c.if-f-gt-MOST_BROKEN.true))
     (λ c. search rules)
     (λ c. let s = c.before.before in
-    simp (ne_eqb _ _ s.if-n-eq0.false, le-ltb _ _ s.if-n-gt-MOST_CARDS.false, le-ltb _ _ c.if-f-gt-MOST_BROKEN.false, le-leb _ _ c.if-n-f.true))
+    simp (
+      ne_eqb _ _ s.if-n-eq0.false,
+      le-ltb _ _ s.if-n-gt-MOST_CARDS.false,
+      le-ltb _ _ c.if-f-gt-MOST_BROKEN.false,
+      le-leb _ _ c.if-n-f.true,
+    ))
     (λ c. let s = c.before.before in
-    simp (ne_eqb _ _ s.if-n-eq0.false, le-ltb _ _ s.if-n-gt-MOST_CARDS.false, le-ltb _ _ c.if-f-gt-MOST_BROKEN.false, lt-leb _ _ c.if-n-f.false)))
+    simp (
+      ne_eqb _ _ s.if-n-eq0.false,
+      le-ltb _ _ s.if-n-gt-MOST_CARDS.false,
+      le-ltb _ _ c.if-f-gt-MOST_BROKEN.false,
+      lt-leb _ _ c.if-n-f.false,
+    )))

@@ -17,14 +17,17 @@ use Rattle.frames.proofs.frame.beat_line_refusal.Tie as tie
 
 -- what the frame alone is refused for
 framed : (c : tie.After-frame_refusal-refusal)
-    → c.frame_refusal-refusal.result ≡ of_frame (let a = c.args in not (well_formed (frame_digits (beat_words (said a.h))) a.line.now)) (beat_of c.args.line.now) (c.args.beat + 1)
+    → c.frame_refusal-refusal.result
+    ≡ of_frame (let a = c.args in not (well_formed (frame_digits (beat_words (said a.h))) a.line.now)) (beat_of c.args.line.now)
+    (c.args.beat + 1)
 framed c = c.frame_refusal-refusal.ensures ∙ rw c.beat_words.ensures
 
 refused : tie.Need-returns-then-refusal-ne0
 unfolding beat_line_refusal
 refused c =
     let a = c.args in
-    frame_refused (let a = c.args in not (well_formed (frame_digits (beat_words (said a.h))) a.line.now)) (beat_of a.line.now) (a.beat + 1) _ (framed c.before) c.if-refusal-ne0.true
+    frame_refused (let a = c.args in not (well_formed (frame_digits (beat_words (said a.h))) a.line.now)) (beat_of a.line.now)
+    (a.beat + 1) _ (framed c.before) c.if-refusal-ne0.true
 
 later : (c : tie.Else-refusal-ne0)
     → let a = c.args in
@@ -32,7 +35,8 @@ later : (c : tie.Else-refusal-ne0)
 unfolding beat_line_refusal
 later c =
     let a = c.args in
-    frame_passed (let a = c.args in not (well_formed (frame_digits (beat_words (said a.h))) a.line.now)) (beat_of a.line.now) (a.beat + 1) _ (framed c.before) c.if-refusal-ne0.false
+    frame_passed (let a = c.args in not (well_formed (frame_digits (beat_words (said a.h))) a.line.now)) (beat_of a.line.now)
+    (a.beat + 1) _ (framed c.before) c.if-refusal-ne0.false
 
 pub beat_line_refusal_spec : {M : Type 1} → statement M
 beat_line_refusal_spec =

@@ -11,7 +11,8 @@ use Rattle.level.proofs.Level.phase.Tie as tie
 half : (c : tie.Joined-card-g)
     → let a = c.args in
     c.if-card-g.half ≡ half_of a.g.n a.card
-half c = ⊎_elim (λ w. rw (w.half-is, lt-ltb _ _ w.if-card-g.true)) (λ w. rw (w.half-is, le-ltb _ _ w.if-card-g.false)) c.if-card-g.branch-raw
+half c = ⊎_elim (λ w. rw (w.half-is, lt-ltb _ _ w.if-card-g.true)) (λ w. rw (w.half-is, le-ltb _ _ w.if-card-g.false))
+    c.if-card-g.branch-raw
 
 returns : tie.Need-returns
 returns c =

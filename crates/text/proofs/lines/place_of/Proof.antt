@@ -53,7 +53,8 @@ unfolding lines_of
 returns-3 c =
     let a = c.args in
     let none : drop (a.k - 1) (lines_of a.text.now) ≡ [] =
-    sym c.loop-start.invariant.0 ∙ rw (drop_of_length-le a.text.now {i = c.loop-start.start} c.loop-start-test.false) (drop-nil c.loop-start.left) in
+    sym c.loop-start.invariant.0 ∙ rw (drop_of_length-le a.text.now {i = c.loop-start.start} c.loop-start-test.false)
+    (drop-nil c.loop-start.left) in
     no_line_stands a.k a.text.now (no_line a.k a.text.now (omega arith) none)
 
 pub place_of_spec : {M : Type 1} → statement M
