@@ -19,7 +19,10 @@ fn copy(name: &str, proved: &str) -> Copy {
         &(asked("rt") + "cat proved\n! grep -q FAILED proved\n"),
     );
     copy.write(".ci/contracts", &asked("contracts"));
-    copy.write(".ci/assumptions", &asked("assumptions"));
+    copy.write(
+        ".ci/assumptions",
+        &(asked("assumptions") + "echo 'assumed: nothing'\n"),
+    );
     copy.write(
         ".ci/host-tests",
         &(asked("host-tests") + "echo 'host: 5 passed'\n"),
@@ -34,10 +37,16 @@ fn the_steps_in_their_order() {
     ended.assert_passed();
     assert_eq!(
         ended.printed(),
-        format!("{PROVED}host: 5 passed\n122 passed, 0 failed\n")
+        format!("{PROVED}host: 5 passed\nassumed: nothing\n122 passed, 0 failed\n")
     );
+    // The last two go on side by side.
     let asked = std::fs::read_to_string(copy.path("asked")).expect("the steps were asked");
-    assert_eq!(asked, "contracts \nrt ci\nhost-tests \nassumptions \n");
+    let mut asked: Vec<_> = asked.lines().collect();
+    asked[2..].sort();
+    assert_eq!(
+        asked,
+        ["contracts ", "rt ci", "assumptions ", "host-tests "]
+    );
 }
 
 const UNSURE: &str = "rt ci found edits that are bad, or did not say that all is well";
