@@ -2,6 +2,7 @@
 use borrow.Author.Rules.{rules}
 use borrow.Author.Tests.{le-leb, lt-leb}
 use mathlib.Core.Path.{sym, ◌∙◌}
+use native.Mathlib.Omega.{arith}
 use Rattle.lag.proofs.lag_refusal.Statement.{statement}
 use Rattle.lag.proofs.lag_refusal.Tie as tie
 
@@ -13,6 +14,6 @@ lag_refusal_spec =
     (λ c. simp (sym c.modulus_refused.ensures ∙ c.if-modulus_refused.true))
     (λ c. simp (sym c.modulus_refused.ensures ∙ c.if-modulus_refused.false, le-leb _ _ c.if-c-x.true))
     (λ c. let m = c.before.before in
-    simp (sym m.modulus_refused.ensures ∙ m.if-modulus_refused.false, lt-leb _ _ c.if-c-x.false, le-leb _ _ c.if-c-y.true))
+    simp (sym m.modulus_refused.ensures ∙ m.if-modulus_refused.false, lt-leb _ _ c.if-c-x.false, le-leb c.args.c c.args.y (omega arith)))
     (λ c. let m = c.before.before in
-    simp (sym m.modulus_refused.ensures ∙ m.if-modulus_refused.false, lt-leb _ _ c.if-c-x.false, lt-leb _ _ c.if-c-y.false)))
+    simp (sym m.modulus_refused.ensures ∙ m.if-modulus_refused.false, lt-leb _ _ c.if-c-x.false, lt-leb c.args.c c.args.y (omega arith))))
