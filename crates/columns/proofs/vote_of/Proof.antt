@@ -40,14 +40,6 @@ more c =
     let t = l.loop-u.invariant.2.counts x c.if-x-m.true in
     (omega (arith, sent_le v u (Count x)), z, sent_yes v u (Count x) z ∙ ap (λ (k : ℕ). k + 1) (sym t))
 
-found : tie.Need-returns-then-enough-t invariant-loop decreases-loop
-found c =
-    let x = c.said-x.result in
-    let enough = (more c.before).2 in
-    sym
-    (vote_found (votes_in c.args.m c.args.recs.now c.args.col) c.args.col.n c.args.f c.args.m (c.loop-u.u + 1) x
-    (omega arith) (omega arith) (omega arith) (omega (arith, enough)))
-
 loop_again : tie.Need-loop-u-preserved invariant-loop decreases-loop
 loop_again c =
     let a = c.args in
@@ -94,7 +86,11 @@ vote_of_spec =
     (λ c. omega arith)
     (λ c. omega (arith, (more c).0))
     (λ c. search rules)
-    found
+    (λ c. let x = c.said-x.result in
+    let enough = (more c.before).2 in
+    sym
+    (vote_found (votes_in c.args.m c.args.recs.now c.args.col) c.args.col.n c.args.f c.args.m (c.loop-u.u + 1) x
+    (omega arith) (omega arith) (omega arith) (omega (arith, enough))))
     (λ c. omega arith)
     (λ c. omega arith)
     loop_again
