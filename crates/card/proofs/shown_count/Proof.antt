@@ -24,12 +24,6 @@ refused c =
       told = sym (read_count none_word 0 (omega arith));
     }
 
-inside : tie.Need-bounds-words-at
-inside c =
-    let a = c.args in
-    let whole = shown_accepted a.n a.f a.c (length a.words.now) (sym c.shown_refusal-refusal.ensures ∙ c.if-refusal-ne0.false) in
-    omega (arith, c.output_place-at.ensures.0, output_inside a.f)
-
 answered : tie.Need-returns
 unfolding shown_answer shown_count
 answered c =
@@ -49,6 +43,8 @@ shown_count_spec =
     refused
     (λ c κs. search rules)
     (λ c. search rules)
-    inside
+    (λ c. let a = c.args in
+    let whole = shown_accepted a.n a.f a.c (length a.words.now) (sym c.shown_refusal-refusal.ensures ∙ c.if-refusal-ne0.false) in
+    omega (arith, c.output_place-at.ensures.0, output_inside a.f))
     (λ c κs. search rules)
     answered)

@@ -61,21 +61,31 @@ step_refusal_spec =
     (tie.spec
     (λ c κs. search rules)
     refused
-    (λ c. sym (later c.before ∙ rw (le-leb _ _ c.if-n-card.true)))
+    (λ c. sym (later c.before ∙ rw (le-leb c.args.n c.args.card (omega arith))))
     (λ c κs. search rules)
     (λ c. omega (arith, (small c).table))
     (λ c. omega (arith, (small c).table_units))
     (λ c. omega (arith, (small c).table_units))
     (λ c. let w = c.before in
     let p = w.before in
-    sym (later p.before ∙ rw (← w.record_words-w.ensures, lt-leb _ _ p.if-n-card.false, ne_eqb _ _ c.if-records-units.true)))
+    sym (later p.before ∙ rw (← w.record_words-w.ensures, lt-leb c.args.n c.args.card (omega arith), ne_eqb _ _ c.if-records-units.true)))
     (λ c. omega (arith, (small c.before).record_units))
     (λ c. omega (arith, (small c.before).record_units))
     (λ c. let w = c.before.before in
     let p = w.before in
     sym (later p.before
-    ∙ rw (← w.record_words-w.ensures, lt-leb _ _ p.if-n-card.false, eq-eqb _ _ c.if-records-units.false, ne_eqb _ _ c.if-out-units.true)))
+    ∙ rw (
+      ← w.record_words-w.ensures,
+      lt-leb c.args.n c.args.card (omega arith),
+      eq-eqb _ _ c.if-records-units.false,
+      ne_eqb _ _ c.if-out-units.true,
+    )))
     (λ c. let w = c.before.before in
     let p = w.before in
     sym (later p.before
-    ∙ rw (← w.record_words-w.ensures, lt-leb _ _ p.if-n-card.false, eq-eqb _ _ c.if-records-units.false, eq-eqb _ _ c.if-out-units.false))))
+    ∙ rw (
+      ← w.record_words-w.ensures,
+      lt-leb c.args.n c.args.card (omega arith),
+      eq-eqb _ _ c.if-records-units.false,
+      eq-eqb _ _ c.if-out-units.false,
+    ))))
