@@ -9,6 +9,9 @@ start() {
     exec qemu-x86_64 "$kit/lib/ld-linux-x86-64.so.2" --library-path "$kit/lib" "$root/$program"
 }
 
+unwritten='blockrun: the output could not be written'
+unread='blockrun: nobody reads the output'
+
 # The run program has no exit status of its own. It reports a failed read or write and a refused line on standard error.
 run() { # [FILE]
     (: 3>&1) 2>/dev/null || fail "standard output is closed"
@@ -19,6 +22,7 @@ run() { # [FILE]
         status=141
         reports=$(printf '%s\n' "$reports" | grep -vxF "$unwritten" || :)
     fi
+    reports=$(printf '%s\n' "$reports" | grep -vxF "$unread" || :)
     while IFS= read -r report; do
         say_report "$report" "$@"
     done <<REPORTS
@@ -31,13 +35,11 @@ REPORTS
     exit "$status"
 }
 
-unwritten='blockrun: the output could not be written'
-
-# A write into a pipe fails only if nobody reads from it any more. The system then ends a program by signal 13, unless that is
-# ignored; Rattle's programs ignore it always.
+# The system ends a program whose output nobody reads any more by signal 13, unless that is ignored; Rattle's programs ignore it
+# always, and report a failed write.
 reader_is_gone() { # REPORTS
     case $1 in
-    *"$unwritten"*) { [ -p /dev/fd/3 ] || [ -S /dev/fd/3 ]; } && ! (sh -c 'kill -s PIPE $$') 2>/dev/null ;;
+    *"$unread"*) ! (sh -c 'kill -s PIPE $$') 2>/dev/null ;;
     *) return 1 ;;
     esac
 }

@@ -6,7 +6,7 @@ ghost use Rattle.std.specs.Prelude.{◌≤◌, length};
 ghost use Rattle.feed.specs.Calls.{FeedsAll, Reached};
 
 use feed::Feed;
-use std::io::Read;
+use std::io::{Error, ErrorKind, Read};
 
 // So much is read at a time: with less, a run would spend its time on calls.
 const PIECE: usize = 65_536;
@@ -21,6 +21,14 @@ struct Ran {
 // A report that cannot be written has nowhere else to go.
 fn report(rt: &HostRuntime, text: &[u8]) {
     let _ = rt.stderr().write_all(text);
+}
+
+// The launcher has to know a reader that went away from any other failure: it ends as the system ends other programs then.
+fn report_unwritten(rt: &HostRuntime, error: &Error) {
+    report(rt, b"blockrun: the output could not be written\n");
+    if error.kind() == ErrorKind::BrokenPipe {
+        report(rt, b"blockrun: nobody reads the output\n");
+    }
 }
 
 // Reads a piece, and returns how long it is: 0 if the input ends or the read failed.
@@ -52,11 +60,13 @@ fn put(rt: &HostRuntime, before: bool, text: &[u8]) -> bool {
         report(rt, b"blockrun: refused ");
         report(rt, text);
     }
-    let whole = rt.stdout().write_all(text).is_ok();
-    if !whole {
-        report(rt, b"blockrun: the output could not be written\n");
+    match rt.stdout().write_all(text) {
+        Ok(()) => true,
+        Err(error) => {
+            report_unwritten(rt, &error);
+            false
+        }
     }
-    whole
 }
 
 // Feeds a piece line by line, and writes each output line as it is known. All of the piece is fed, written or not, so that
