@@ -15,13 +15,13 @@ pub fn page(name: &str) -> String {
     read(&root().join(name))
 }
 
-/// All files below a folder, or the file itself. What rt leaves in a crate's `out` is not of the repository.
+/// All files below a folder, or the file itself. What rt and cargo leave in `out` and `target` is not of the repository.
 pub fn files(path: &Path, found: &mut Vec<PathBuf>) {
     if path.is_file() {
         found.push(path.to_path_buf());
         return;
     }
-    if path.file_name().map_or(false, |name| name == "out") {
+    if path.ends_with("out") || path.ends_with("target") {
         return;
     }
     for entry in fs::read_dir(path).expect("a folder of the repository") {
