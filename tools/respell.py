@@ -8,7 +8,6 @@ Two names that would fall together are told apart: the lemma gets `_lem`. It cha
 the must-fail edits; what stands in code, comments and strings stays.
 """
 
-import collections
 import glob
 import os
 import re
@@ -122,9 +121,6 @@ def main(argv):
         os.chdir(argv[0])
     own = renamed()
     made = source_names()
-    by_new = collections.defaultdict(list)
-    for old, new in own.items():
-        by_new[new].append(old)
     for path in texts(".antt", ".rt", ".edit"):
         text = read(path)
         if path.endswith(".rt"):

@@ -2,6 +2,7 @@
 -- such a search finds.
 use mathlib.Core.Path.{◌≡◌, refl, sym, ◌∙◌}
 use mathlib.Core.Bool.{Bool, true, false, not}
+use mathlib.Core.List.{List}
 use mathlib.Core.Logic.{⊎_elim}
 use Prim.Native.Nat.{ℕ, ◌+◌, ◌*◌, ◌-◌, ◌≤◌, ◌<◌}
 use native.Mathlib.Omega.{arith}
@@ -16,7 +17,12 @@ use Rattle.rules.proofs.Tests.{decided, le_or_lt, lt_or_le}
 use Rattle.rules.proofs.Counting.{count_yes, count_no, count_same, count_not, count_le, count_some, count_split, count_apart}
 use Rattle.rules.proofs.Counting.{least_at, least_none}
 use Rattle.rules.proofs.Votes.{count_none, same_true, same_eq, read_below, read_above, read_is}
-use Rattle.columns.specs.Columns.{lies}
+use Rattle.columns.specs.declared.Column.{Column}
+use Rattle.columns.specs.Columns.{word_in, lies}
+
+-- does a card's word lie there?
+abbrev pub lies_there : List ℕ → Column → ℕ → ℕ → ℕ → Bool
+lies_there recs col low high v = lies low high (word_in recs col v)
 
 not_same : (v : Vote) (x : ℕ) → (v ≡ Count x → ⊥) → same v (Count x) ≡ false
 not_same v x ne = ⊎_elim

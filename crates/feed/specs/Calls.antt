@@ -94,7 +94,7 @@ pub record Buffers (line table : List ℕ) : Type 0 where
 -- a part of a piece up to a line's end
 pub record LinePart (piece : List ℕ) (from end : ℕ) : Type 0 where
   pub inside : from ≤ length piece
-  pub at_end_lem : end ≡ end_from piece from
+  pub at_end : end ≡ end_from piece from
 
 -- such a part is fed to a run that reads
 pub record FeedsPart (stage : KeptStage) (held : ℕ) (piece : List ℕ) (from end : ℕ) (line table out : List ℕ)

@@ -9,24 +9,23 @@ use Rattle.rules.proofs.Shapes.{counter_refused, counter_passed}
 use Rattle.card.proofs.shown_refusal.Statement.{statement}
 use Rattle.card.proofs.shown_refusal.Tie as tie
 
+-- what is tested after 3
+abbrev rest : ℕ → ℕ → ℕ
+rest words w = given 5 (wrong words w) 0
+
 refused : tie.Need-returns-then-refusal-ne0
 refused c =
     let a = c.args in
-    counter_refused a.n a.f a.c ((λ (w : ℕ). given 5 (wrong c.args.words w) 0) (record_words a.f)) _ c.counter_refusal-refusal.ensures
-    c.if-refusal-ne0.true
+    counter_refused a.n a.f a.c (rest a.words (record_words a.f)) _ c.counter_refusal-refusal.ensures c.if-refusal-ne0.true
 
 -- refusals 1 to 3 are not given
 later : (c : tie.After-record_words)
-    → let s = c.before.before.before in
-    let a = s.args in
-    shown_refusal a.n a.f a.c a.words ≡ (λ (w : ℕ). given 5 (wrong c.args.words w) 0) c.record_words.result
+    → let a = c.args in
+    shown_refusal a.n a.f a.c a.words ≡ rest a.words c.record_words.result
 later c =
-    let t = c.before.before in
-    let s = t.before in
-    let a = s.args in
+    let a = c.args in
     rw c.record_words.ensures
-    (counter_passed a.n a.f a.c ((λ (w : ℕ). given 5 (wrong c.args.words w) 0) (record_words a.f)) _ t.counter_refusal-refusal.ensures
-    c.if-refusal-ne0.false)
+    (counter_passed a.n a.f a.c (rest a.words (record_words a.f)) _ c.counter_refusal-refusal.ensures c.if-refusal-ne0.false)
 
 pub shown_refusal_spec : {M : Type 1} → statement M
 shown_refusal_spec =

@@ -8,7 +8,7 @@ use native.Mathlib.Omega.{arith}
 use Rattle.rules.specs.Counting.{count_below}
 use Rattle.rules.proofs.Counting.{count_yes, count_no}
 use Rattle.columns.specs.Columns.{word_in, lies}
-use Rattle.columns.proofs.Sent.{count_zero, never_enough, enough_of_all}
+use Rattle.columns.proofs.Sent.{lies_there, count_zero, never_enough, enough_of_all}
 use Rattle.columns.proofs.all_but.Statement.{statement}
 use Rattle.columns.proofs.all_but.Tie as tie
 
@@ -21,32 +21,33 @@ decreases-loop recs col spare low high n left₀ u₀ left u = n - u
 
 -- whether the card's word does
 tested : (c : tie.After-lies invariant-loop decreases-loop)
-    → c.lies.result ≡ (λ (v : ℕ). lies c.args.low c.args.high (word_in c.args.recs.now c.args.col v)) c.loop-u.u
+    → let a = c.args in
+    c.lies.result ≡ lies_there a.recs.now a.col a.low a.high c.loop-u.u
 tested c =
     let a = c.args in
     c.lies.ensures ∙ ap (lies a.low a.high) c.said.ensures
 
 too_many : tie.Need-returns-then-left-eq0 invariant-loop decreases-loop
 too_many c =
-    let z = count_no c.loop-u.u (λ (v : ℕ). lies c.args.low c.args.high (word_in c.args.recs.now c.args.col v))
-    (sym (tested c.before.before) ∙ not-true _ c.if-not-lies.true-raw) in
-    sym (never_enough (λ (v : ℕ). lies c.args.low c.args.high (word_in c.args.recs.now c.args.col v)) c.args.col.n c.args.spare
-    (c.loop-u.u + 1) (omega arith) (omega (arith, z)))
+    let a = c.args in
+    let test = lies_there a.recs.now a.col a.low a.high in
+    let z = count_no c.loop-u.u test (sym (tested c.before.before) ∙ not-true _ c.if-not-lies.true-raw) in
+    sym (never_enough test a.col.n a.spare (c.loop-u.u + 1) (omega arith) (omega (arith, z)))
 
 loop_again : tie.Need-loop-u-preserved invariant-loop decreases-loop
 loop_again c =
+    let a = c.args in
+    let test = lies_there a.recs.now a.col a.low a.high in
     let e = sym (tested c.before) in
     ⊎_elim
-    (λ w. let z = count_no c.loop-u.u (λ (v : ℕ). lies c.args.low c.args.high (word_in c.args.recs.now c.args.col v))
-    (e ∙ not-true _ w.if-not-lies.true-raw) in (omega arith, refl, omega (arith, z)))
-    (λ w. let z = count_yes c.loop-u.u (λ (v : ℕ). lies c.args.low c.args.high (word_in c.args.recs.now c.args.col v))
-    (e ∙ not-false _ w.if-not-lies.false-raw) in (omega arith, refl, omega (arith, z)))
+    (λ w. let z = count_no c.loop-u.u test (e ∙ not-true _ w.if-not-lies.true-raw) in (omega arith, refl, omega (arith, z)))
+    (λ w. let z = count_yes c.loop-u.u test (e ∙ not-false _ w.if-not-lies.false-raw) in (omega arith, refl, omega (arith, z)))
     c.if-not-lies.branch-raw
 
 few : tie.Need-returns invariant-loop decreases-loop
 few c =
-    sym (enough_of_all (λ (v : ℕ). lies c.args.low c.args.high (word_in c.args.recs.now c.args.col v)) c.args.col.n c.args.spare
-    c.loop-u.u (omega arith) (omega arith))
+    let a = c.args in
+    sym (enough_of_all (lies_there a.recs.now a.col a.low a.high) a.col.n a.spare c.loop-u.u (omega arith) (omega arith))
 
 pub all_but_spec : {M : Type 1} → statement M
 all_but_spec =
@@ -54,7 +55,7 @@ all_but_spec =
     (tie.spec
     invariant-loop
     decreases-loop
-    (λ c. (omega arith, refl, omega (arith, count_zero (λ (v : ℕ). lies c.args.low c.args.high (word_in c.args.recs.now c.args.col v)))))
+    (λ c. let a = c.args in (omega arith, refl, omega (arith, count_zero (lies_there a.recs.now a.col a.low a.high))))
     (λ c κs. search rules)
     (λ c κs. search rules)
     too_many

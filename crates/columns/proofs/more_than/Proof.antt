@@ -7,7 +7,7 @@ use native.Mathlib.Omega.{arith}
 use Rattle.rules.specs.Counting.{count_below}
 use Rattle.rules.proofs.Counting.{count_yes, count_no}
 use Rattle.columns.specs.Columns.{word_in, lies}
-use Rattle.columns.proofs.Sent.{count_zero, more_already, never_more}
+use Rattle.columns.proofs.Sent.{lies_there, count_zero, more_already, never_more}
 use Rattle.columns.proofs.more_than.Statement.{statement}
 use Rattle.columns.proofs.more_than.Tie as tie
 
@@ -20,32 +20,33 @@ decreases-loop recs col few low high n left₀ u₀ left u = n - u
 
 -- whether the card's word does
 tested : (c : tie.After-lies invariant-loop decreases-loop)
-    → c.lies.result ≡ (λ (v : ℕ). lies c.args.low c.args.high (word_in c.args.recs.now c.args.col v)) c.loop-u.u
+    → let a = c.args in
+    c.lies.result ≡ lies_there a.recs.now a.col a.low a.high c.loop-u.u
 tested c =
     let a = c.args in
     c.lies.ensures ∙ ap (lies a.low a.high) c.said.ensures
 
 more : tie.Need-returns-then-left-eq0 invariant-loop decreases-loop
 more c =
-    let z = count_yes c.loop-u.u (λ (v : ℕ). lies c.args.low c.args.high (word_in c.args.recs.now c.args.col v))
-    (sym (tested c.before.before) ∙ c.if-lies.true) in
-    sym (more_already (λ (v : ℕ). lies c.args.low c.args.high (word_in c.args.recs.now c.args.col v)) c.args.col.n c.args.few
-    (c.loop-u.u + 1) (omega arith) (omega (arith, z)))
+    let a = c.args in
+    let test = lies_there a.recs.now a.col a.low a.high in
+    let z = count_yes c.loop-u.u test (sym (tested c.before.before) ∙ c.if-lies.true) in
+    sym (more_already test a.col.n a.few (c.loop-u.u + 1) (omega arith) (omega (arith, z)))
 
 loop_again : tie.Need-loop-u-preserved invariant-loop decreases-loop
 loop_again c =
+    let a = c.args in
+    let test = lies_there a.recs.now a.col a.low a.high in
     let e = sym (tested c.before) in
     ⊎_elim
-    (λ w. let z = count_yes c.loop-u.u (λ (v : ℕ). lies c.args.low c.args.high (word_in c.args.recs.now c.args.col v))
-    (e ∙ w.if-lies.true) in (omega arith, refl, omega (arith, z)))
-    (λ w. let z = count_no c.loop-u.u (λ (v : ℕ). lies c.args.low c.args.high (word_in c.args.recs.now c.args.col v))
-    (e ∙ w.if-lies.false) in (omega arith, refl, omega (arith, z)))
+    (λ w. let z = count_yes c.loop-u.u test (e ∙ w.if-lies.true) in (omega arith, refl, omega (arith, z)))
+    (λ w. let z = count_no c.loop-u.u test (e ∙ w.if-lies.false) in (omega arith, refl, omega (arith, z)))
     c.if-lies.branch-raw
 
 no_more : tie.Need-returns invariant-loop decreases-loop
 no_more c =
-    sym (never_more (λ (v : ℕ). lies c.args.low c.args.high (word_in c.args.recs.now c.args.col v)) c.args.col.n c.args.few c.loop-u.u
-    (omega arith) (omega arith))
+    let a = c.args in
+    sym (never_more (lies_there a.recs.now a.col a.low a.high) a.col.n a.few c.loop-u.u (omega arith) (omega arith))
 
 pub more_than_spec : {M : Type 1} → statement M
 more_than_spec =
@@ -53,7 +54,7 @@ more_than_spec =
     (tie.spec
     invariant-loop
     decreases-loop
-    (λ c. (omega arith, refl, omega (arith, count_zero (λ (v : ℕ). lies c.args.low c.args.high (word_in c.args.recs.now c.args.col v)))))
+    (λ c. let a = c.args in (omega arith, refl, omega (arith, count_zero (lies_there a.recs.now a.col a.low a.high))))
     (λ c κs. search rules)
     (λ c κs. search rules)
     more

@@ -10,20 +10,20 @@ use Rattle.columns.proofs.sent_enough.Tie as tie
 
 a_count : tie.Need-returns-then-value-m
 a_count c =
-    let n = c.args.col.n in
-    rw c.in-Count.is
-    (c.all_but.ensures ∙ ap (enough n c.args.f) (sent_x (word_in c.args.recs.now c.args.col) c.args.m n c.in-Count.x (omega arith)))
+    let a = c.args in
+    let words = word_in a.recs.now a.col in
+    rw c.in-Count.is (c.all_but.ensures ∙ ap (enough a.col.n a.f) (sent_x words a.m a.col.n c.in-Count.x (omega arith)))
 
 no_count : tie.Need-returns-else-value-m
 no_count c =
-    let n = c.args.col.n in
-    rw (c.in-Count.is, sent_never (word_in c.args.recs.now c.args.col) c.args.m n c.in-Count.x c.if-value-m.false) (enough_zero n c.args.f)
+    let a = c.args in
+    let words = word_in a.recs.now a.col in
+    rw (c.in-Count.is, sent_never words a.m a.col.n c.in-Count.x c.if-value-m.false) (enough_zero a.col.n a.f)
 
 none : tie.Need-returns-in-None
 none c =
-    let n = c.args.col.n in
-    rw (c.in-None.is, c.more_than.ensures)
-    (enough_rest n c.args.f _ _ (sent_none (word_in c.args.recs.now c.args.col) c.args.m n))
+    let a = c.args in
+    rw (c.in-None.is, c.more_than.ensures) (enough_rest a.col.n a.f _ _ (sent_none (word_in a.recs.now a.col) a.m a.col.n))
 
 pub sent_enough_spec : {M : Type 1} → statement M
 sent_enough_spec =

@@ -62,9 +62,9 @@ loop_again c =
 
 -- what was sent and lies below the best is not supported
 passed : (c : tie.After-loop-u invariant-loop decreases-loop)
-    → let n = c.args.col.n in
-    (v x : ℕ) → v < n → (votes_in c.args.c c.args.recs.now c.args.col) v ≡ Count x → x < c.loop-u.best
-    → sent_by n (votes_in c.args.c c.args.recs.now c.args.col) (Count x) ≤ c.args.f
+    → let a = c.args in
+    let votes = votes_in a.c a.recs.now a.col in
+    (v x : ℕ) → v < a.col.n → votes v ≡ Count x → x < c.loop-u.best → sent_by a.col.n votes (Count x) ≤ a.f
 passed c v x lv e l =
     let a = c.args in
     let s : word_in a.recs.now a.col v ≡ x = (read_is a.c (word_in a.recs.now a.col v) x e).0 in
@@ -72,15 +72,16 @@ passed c v x lv e l =
 
 found : tie.Need-returns-then-best-c invariant-loop decreases-loop
 found c =
+    let a = c.args in
     sym
-    (supported_found (votes_in c.args.c c.args.recs.now c.args.col) c.args.col.n c.args.f c.args.c c.loop-u.best c.if-best-c.true
+    (supported_found (votes_in a.c a.recs.now a.col) a.col.n a.f a.c c.loop-u.best c.if-best-c.true
     (c.loop-u.invariant.2 c.if-best-c.true) (passed c.before))
 
 none : tie.Need-returns-else-best-c invariant-loop decreases-loop
 none c =
+    let a = c.args in
     sym
-    (supported_none (votes_in c.args.c c.args.recs.now c.args.col) c.args.col.n c.args.f c.args.c
-    (λ v x lv e l. passed c.before v x lv e (omega arith)))
+    (supported_none (votes_in a.c a.recs.now a.col) a.col.n a.f a.c (λ v x lv e l. passed c.before v x lv e (omega arith)))
 
 pub smallest_supported_spec : {M : Type 1} → statement M
 smallest_supported_spec =

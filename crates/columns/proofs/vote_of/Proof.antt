@@ -26,13 +26,13 @@ decreases-loop recs col f m n enough tally₀ u₀ tally u = col.n - u
 -- where x is sent once more: its tally is small, and is how often it was sent
 more : (c : tie.Then-x-m invariant-loop decreases-loop)
     → let l = c.before.before.before in
-    let v = (votes_in c.args.m c.args.recs.now c.args.col) in
+    let v = votes_in c.args.m c.args.recs.now c.args.col in
     let x = c.said-x.result in
     let again = get_or l.loop-u.tally x 0 + 1 in
     (again ≤ 256) × (v l.loop-u.u ≡ Count x) × (sent_by (l.loop-u.u + 1) v (Count x) ≡ again)
 more c =
     let l = c.before.before.before in
-    let v = (votes_in c.args.m c.args.recs.now c.args.col) in
+    let v = votes_in c.args.m c.args.recs.now c.args.col in
     let m = l.args.m in
     let u = l.loop-u.u in
     let x = c.said-x.result in
@@ -43,7 +43,7 @@ more c =
 loop_again : tie.Need-loop-u-preserved invariant-loop decreases-loop
 loop_again c =
     let a = c.args in
-    let v = (votes_in c.args.m c.args.recs.now c.args.col) in
+    let v = votes_in c.args.m c.args.recs.now c.args.col in
     let u = c.loop-u.u in
     let x = c.said-x.result in
     ⊎_elim
@@ -65,9 +65,9 @@ loop_again c =
 
 returns : tie.Need-returns invariant-loop decreases-loop
 returns c =
-    let n = c.args.col.n in
-    let e : c.loop-u.u ≡ n = omega arith in
-    sym (vote_none (votes_in c.args.m c.args.recs.now c.args.col) n c.args.f c.args.m (rw e at c.loop-u.invariant.3))
+    let a = c.args in
+    let e : c.loop-u.u ≡ a.col.n = omega arith in
+    sym (vote_none (votes_in a.m a.recs.now a.col) a.col.n a.f a.m (rw e at c.loop-u.invariant.3))
 
 pub vote_of_spec : {M : Type 1} → statement M
 vote_of_spec =
@@ -81,15 +81,16 @@ vote_of_spec =
     (λ c κs. search rules)
     (λ c. search rules)
     (λ c. omega arith)
-    (λ c. let x = c.said-x.result in
-    omega (arith, c.loop-u.invariant.2.counts x c.if-x-m.true, sent_le (votes_in c.args.m c.args.recs.now c.args.col) c.loop-u.u (Count x)))
+    (λ c. let a = c.args in
+    let x = c.said-x.result in
+    omega (arith, c.loop-u.invariant.2.counts x c.if-x-m.true, sent_le (votes_in a.m a.recs.now a.col) c.loop-u.u (Count x)))
     (λ c. omega arith)
     (λ c. omega (arith, (more c).0))
     (λ c. search rules)
-    (λ c. let x = c.said-x.result in
+    (λ c. let a = c.args in
     let enough = (more c.before).2 in
     sym
-    (vote_found (votes_in c.args.m c.args.recs.now c.args.col) c.args.col.n c.args.f c.args.m (c.loop-u.u + 1) x
+    (vote_found (votes_in a.m a.recs.now a.col) a.col.n a.f a.m (c.loop-u.u + 1) c.said-x.result
     (omega arith) (omega arith) (omega arith) (omega (arith, enough))))
     (λ c. omega arith)
     (λ c. omega arith)

@@ -17,8 +17,8 @@ hold_requires c κs =
     let part = c.requires.0 in
     record {
       line_size = c.requires.1.line_size;
-      forward = omega (arith, part.at_end_lem);
-      inside = rw part.at_end_lem (end_within c.args.piece.now c.args.from part.inside);
+      forward = omega (arith, part.at_end);
+      inside = rw part.at_end (end_within c.args.piece.now c.args.from part.inside);
     }
 
 unfinished : tie.Need-returns-then-end-piece
@@ -53,7 +53,7 @@ finished c =
     let stage = stage_of a.stage a.table.now in
     let part = c.requires.0 in
     let l = end_within piece a.from part.inside in
-    let before : a.end < length piece = omega (arith, l, part.at_end_lem, c.if-end-piece.false) in
+    let before : a.end < length piece = omega (arith, l, part.at_end, c.if-end-piece.false) in
     record {
       held_is = h.ensures.kept;
       stands = rw (fed_ended line a.held c.requires.1.line_size stage piece a.from a.end part before)

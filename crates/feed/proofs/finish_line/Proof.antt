@@ -2,13 +2,14 @@
 use borrow.Author.Rules.{rules}
 use mathlib.Core.Path.{◌≡◌, sym, ap, ◌∙◌}
 use mathlib.Core.Logic.{◌⊎◌, ⊎_elim}
-use mathlib.Core.List.{[]}
-use Prim.Native.Nat.{◌<◌}
+use mathlib.Core.List.{List, []}
+use Prim.Native.Nat.{ℕ, ◌<◌}
 use native.Mathlib.Omega.{arith}
 use lib.ListN.{length, take}
+use Rattle.runfile.specs.declared.Stage.{Stage}
 use Rattle.runfile.specs.Runs.{stage_of}
 use Rattle.feed.specs.declared.Feed.TheVariants.{Reading}
-use Rattle.feed.specs.Feeds.{ended, last_fed}
+use Rattle.feed.specs.Feeds.{Machine, ended, last_fed}
 use Rattle.feed.specs.Calls.{machine_of, missing, written_by, Stands}
 use Rattle.feed.proofs.Calls.{held_min, finishes_none, finishes_refused, finishes_accepted, finished_is, one_written}
 use Rattle.feed.proofs.finish_line.Statement.{statement}
@@ -21,19 +22,22 @@ none c =
     finishes_none a.stage a.held a.line.now a.table.now a.out.now _ _ c.if-held-eq0.true
     missed.0 missed.1
 
+-- the machine after the last line
+abbrev last : Stage → List ℕ → List ℕ → Machine
+last stage table line = ended (stage_of stage table) line []
+
 -- it stands so once the line is ended
 stands : (c : tie.After-end_line-ended)
     → let a = c.args in
     let e = c.end_line-ended in
-    Stands (ended (stage_of a.stage a.table.now) (take a.held a.line.now) []) e.result.feed e.result.written a.table.now a.out.now
-    a.line.now
+    Stands (last a.stage a.table.now (take a.held a.line.now)) e.result.feed e.result.written a.table.now a.out.now a.line.now
     e.new.table e.new.out
 stands c = rw (c.least.ensures, held_min c.args.line.now c.args.held c.requires.line_size) at c.end_line-ended.ensures
 
 -- and it is the machine that the input leaves
 left : (c : tie.Start) → 0 < c.args.held
-    → last_fed (machine_of (Reading c.args.stage c.args.held) c.args.line.now c.args.table.now)
-    ≡ ended (stage_of c.args.stage c.args.table.now) (take c.args.held c.args.line.now) []
+    → let a = c.args in
+    last_fed (machine_of (Reading a.stage a.held) a.line.now a.table.now) ≡ last a.stage a.table.now (take a.held a.line.now)
 left c l =
     let a = c.args in
     finished_is a.stage a.held a.line.now a.table.now c.requires.line_size l
@@ -50,7 +54,7 @@ refused c =
 -- one of the two is empty
 one : (c : tie.In-Reading)
     → let a = c.args in
-    (written_by (ended (stage_of a.stage a.table.now) (take a.held a.line.now) []) ≡ []) ⊎ (missing c.in-Reading.next ≡ [])
+    (written_by (last a.stage a.table.now (take a.held a.line.now)) ≡ []) ⊎ (missing c.in-Reading.next ≡ [])
 one c =
     let t = c.before.before.before in
     one_written _ _ _ c.in-Reading.field-1 (sym (stands t).feed_is ∙ c.in-Reading.is)
