@@ -10,3 +10,4 @@ pub mod Records
 pub mod Lines
 pub mod RunFiles
 pub mod Determined
+pub mod Numbers

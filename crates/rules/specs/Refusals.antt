@@ -1,6 +1,8 @@
 -- RULES 9.1: "They are tested in this order, and the first that applies is given." RULES 9.2: "Each call tests what concerns
 -- its own inputs and nothing else." Lengths are in words, or in bytes if the name says so.
-use Rattle.std.specs.Prelude.{ℕ, ◌*◌, Bool, cond, not, ◌||◌, List, eqb, leb}
+use Rattle.std.specs.Prelude.{ℕ, ◌*◌, Bool, cond, not, ◌||◌, List, eqb, leb, Result, Ok, Err}
+use Rattle.rules.specs.declared.Refusal.{Refusal}
+use Rattle.rules.specs.declared.Refusal.TheVariants.{Cards, Broken, Modulus, Card, Records, Output, Set, Sent, Lag, Text, Beat}
 use Rattle.rules.specs.Parameters.{record_words, bad_cards, bad_broken, bad_modulus}
 use Rattle.rules.specs.WholeBeat.{bad_set, sent_words}
 use Rattle.rules.specs.Text.{well_formed, has_line}
@@ -69,3 +71,27 @@ read_refusal n f text out =
 -- RULES 10.3: "A second call returns the refusal: 10 if there is no such line, otherwise 0."
 abbrev pub line_refusal : ℕ → List ℕ → ℕ
 line_refusal k text = given 10 (not (has_line k text)) 0
+
+-- RULES 9.1: the number of each refusal
+unfoldable pub number_of : Refusal → ℕ
+number_of Cards = 1
+number_of Broken = 2
+number_of Modulus = 3
+number_of Card = 4
+number_of Records = 5
+number_of Output = 6
+number_of Set = 7
+number_of Sent = 8
+number_of Lag = 9
+number_of Text = 10
+number_of Beat = 11
+
+-- The number that an answer stands for: 0 if the call is not refused
+unfoldable pub number_in : {A : Type 0} → Result A Refusal → ℕ
+number_in (Ok answer) = 0
+number_in (Err refusal) = number_of refusal
+
+-- RULES 9.3: "A refused call's value is 0": the answer's value, or the one that stands for 0
+unfoldable pub value_in : {A : Type 0} → A → Result A Refusal → A
+value_in nothing (Ok answer) = answer
+value_in nothing (Err refusal) = nothing
