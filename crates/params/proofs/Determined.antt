@@ -4,6 +4,7 @@ use Prim.Native.Nat.{ℕ, zero, suc}
 use Rattle.rules.specs.Parameters.{record_words}
 use Rattle.rules.specs.Calls.{row_of}
 use Rattle.rules.proofs.Determined.{Determined, only_one}
+use Rattle.rules.proofs.Numbers.{same_verdict, same_answer}
 use Rattle.params.specs.Answers.{row_read}
 use Rattle.params.proofs.parameters_of.Kinds as parameters_kinds
 use Rattle.params.proofs.parameters_of.Reads as parameters_reads
@@ -17,14 +18,14 @@ use Rattle.params.proofs.record_words.Kinds as record_words_kinds
 use Rattle.params.proofs.record_words.Reads as record_words_reads
 
 pub parameters_determined : Determined parameters_kinds.ps parameters_kinds.r parameters_reads.Pre parameters_reads.Post
-parameters_determined = (λ κs a. tt, λ κs a x y v w p q. (only_one p q, refl))
+parameters_determined = (λ κs a. tt, λ κs a x y v w p q. (same_answer _ x y (only_one p.0 q.0) (only_one p.1 q.1), refl))
 
 pub shape_refusal_determined : Determined shape_refusal_kinds.ps shape_refusal_kinds.r shape_refusal_reads.Pre shape_refusal_reads.Post
-shape_refusal_determined = (λ κs a. tt, λ κs a x y v w p q. (only_one p q, refl))
+shape_refusal_determined = (λ κs a. tt, λ κs a x y v w p q. (same_verdict x y (only_one p q), refl))
 
 pub counter_refusal_determined :
     Determined counter_refusal_kinds.ps counter_refusal_kinds.r counter_refusal_reads.Pre counter_refusal_reads.Post
-counter_refusal_determined = (λ κs a. tt, λ κs a x y v w p q. (only_one p q, refl))
+counter_refusal_determined = (λ κs a. tt, λ κs a x y v w p q. (same_verdict x y (only_one p q), refl))
 
 pub modulus_refused_determined :
     Determined modulus_refused_kinds.ps modulus_refused_kinds.r modulus_refused_reads.Pre modulus_refused_reads.Post

@@ -1,9 +1,7 @@
 -- The answer's struct, by the rules' own row of parameters.
 use Rattle.std.specs.Prelude.{ℕ}
-use Rattle.rules.specs.Calls.{Parameters, row_of, params_answer}
-use Rattle.rules.specs.Refusals.{shape_refusal}
+use Rattle.rules.specs.Calls.{Parameters, row_of}
 use Rattle.params.specs.declared.Row.{Row}
-use Rattle.params.specs.declared.Parameters.{Parameters as Answer}
 
 abbrev pub row_from : Parameters → Row
 row_from p =
@@ -18,6 +16,3 @@ row_from p =
 
 abbrev pub row_read : ℕ → Row
 row_read f = row_from (row_of f)
-
-abbrev pub answer_to : ℕ → ℕ → Answer
-answer_to n f = record { refusal = shape_refusal n f 0; row = row_from (params_answer n f) }

@@ -3,9 +3,11 @@
 
 ghost use Rattle.std.specs.Prelude.{◌≡◌, ◌≤◌};
 ghost use Rattle.rules.specs.Parameters.{bad_modulus, most_broken, record_words};
-ghost use Rattle.rules.specs.Refusals.{shape_refusal, counter_refusal};
-ghost use Rattle.params.specs.Answers.{row_read, answer_to};
-ghost use Rattle.params.specs.Paces.{pace_of};
+ghost use Rattle.rules.specs.Refusals.{shape_refusal, counter_refusal, number_in, value_in};
+ghost use Rattle.rules.specs.Calls.{no_row, params_answer};
+ghost use Rattle.params.specs.Answers.{row_from, row_read};
+
+use rules::Refusal;
 
 const MOST_CARDS: u32 = 16;
 
@@ -34,54 +36,43 @@ pub struct Row {
     pub beats: u16,
 }
 
-// What is returned for n and f: the refusal, and a row, which is all 0 if there is one.
+// What a counter is made for: n cards, of which f may be broken, that count modulo c.
 #[derive(Clone, Copy)]
-pub struct Parameters {
-    pub refusal: u32,
-    pub row: Row,
+pub struct Counter {
+    pub n: u32,
+    pub f: u32,
+    pub c: u32,
 }
 
 // Refusals 1 and 2.
-pub fn shape_refusal(n: u32, f: u32) -> u32
-    ensures { result ≡ shape_refusal n f 0 }
+pub fn shape_refusal(n: u32, f: u32) -> Result<(), Refusal>
+    ensures { number_in result ≡ shape_refusal n f 0 }
 {
-    if n == 0 {
-        return 1;
+    if n == 0 || MOST_CARDS < n {
+        return Err(Refusal::Cards);
     }
-    if MOST_CARDS < n {
-        return 1;
+    if MOST_BROKEN < f || n <= 3 * f {
+        return Err(Refusal::Broken);
     }
-    if MOST_BROKEN < f {
-        return 2;
-    }
-    if n <= 3 * f {
-        return 2;
-    }
-    0
+    Ok(())
 }
 
 // The test for refusal 3.
 pub fn modulus_refused(c: u32) -> bool
     ensures { result ≡ bad_modulus c }
 {
-    if c < 2 {
-        return true;
-    }
-    MOST_MODULUS < c
+    c < 2 || MOST_MODULUS < c
 }
 
 // Refusals 1, 2 and 3.
-pub fn counter_refusal(n: u32, f: u32, c: u32) -> u32
-    ensures { result ≡ counter_refusal n f c 0 }
+pub fn counter_refusal(counter: Counter) -> Result<(), Refusal>
+    ensures { number_in result ≡ counter_refusal counter.n counter.f counter.c 0 }
 {
-    let refusal = shape_refusal(n, f);
-    if refusal != 0 {
-        return refusal;
+    shape_refusal(counter.n, counter.f)?;
+    if modulus_refused(counter.c) {
+        return Err(Refusal::Modulus);
     }
-    if modulus_refused(c) {
-        return 3;
-    }
-    0
+    Ok(())
 }
 
 // W, from the leading zeros of f.
@@ -91,65 +82,26 @@ pub fn record_words(f: u32) -> u32
     8 * (32 - u32::leading_zeros(f)) + 1
 }
 
-// What the step of a split group needs of its row: t, c0, c1 and 2·c1.
-#[derive(Clone, Copy)]
-pub struct Pace {
-    pub turn: u16,
-    pub c0: u16,
-    pub c1: u16,
-    pub restart: u16,
-}
-
-// RULES 2.2: "A turn has t = 3(f+2) beats"; "count modulo c0 = 2t and c1 = 6t"; "A cooldown restarts at 2·c1." Computed, since a
-// row of the constant table would be copied to the stack each time.
-fn pace_of(f: u32) -> Pace
-    requires { f ≤ most_broken }
-    ensures { result ≡ pace_of f }
-{
-    let turn = 3 * (f as u16 + 2);
-    Pace {
-        turn,
-        c0: 2 * turn,
-        c1: 6 * turn,
-        restart: 12 * turn,
-    }
-}
-
 // The row of an allowed f.
 pub fn row_of(f: u32) -> Row
     requires { f ≤ most_broken }
     ensures { result ≡ row_read f }
 {
-    let row = TABLE[f as usize];
+    let [turn, c0, c1, restart, words, beats] = TABLE[f as usize];
     Row {
-        turn: row[0],
-        c0: row[1],
-        c1: row[2],
-        restart: row[3],
-        words: row[4],
-        beats: row[5],
+        turn,
+        c0,
+        c1,
+        restart,
+        words,
+        beats,
     }
 }
 
 // The parameters of n and f.
-pub fn parameters_of(n: u32, f: u32) -> Parameters
-    ensures { result ≡ answer_to n f }
+pub fn parameters_of(n: u32, f: u32) -> Result<Row, Refusal>
+    ensures { (number_in result ≡ shape_refusal n f 0) × (value_in (row_from no_row) result ≡ row_from (params_answer n f)) }
 {
-    let refusal = shape_refusal(n, f);
-    if refusal != 0 {
-        let none = Row {
-            turn: 0,
-            c0: 0,
-            c1: 0,
-            restart: 0,
-            words: 0,
-            beats: 0,
-        };
-        return Parameters { refusal, row: none };
-    }
-    let found = row_of(f);
-    Parameters {
-        refusal: 0,
-        row: found,
-    }
+    shape_refusal(n, f)?;
+    Ok(row_of(f))
 }

@@ -9,7 +9,6 @@ use Rattle.rules.specs.Refusals.{number_of, number_in, value_in}
 
 -- no refusal has the number 0
 pub number_not_0 : (r : Refusal) → number_of r ≢ 0
-unfolding number_of
 number_not_0 Cards e = absurd (omega arith)
 number_not_0 Broken e = absurd (omega arith)
 number_not_0 Modulus e = absurd (omega arith)
@@ -37,7 +36,7 @@ refusal_at k =
     (cond (eqb k 10) Text Beat)))))))))
 
 refusal_back : (r : Refusal) → refusal_at (number_of r) ≡ r
-unfolding number_of refusal_at
+unfolding refusal_at
 refusal_back Cards = refl
 refusal_back Broken = refl
 refusal_back Modulus = refl
@@ -57,7 +56,6 @@ same_refusal r s e = sym (refusal_back r) ∙ ap refusal_at e ∙ refusal_back s
 -- the number and the value decide the answer
 pub same_answer : {A : Type 0} (nothing : A) (x y : Result A Refusal)
     → number_in x ≡ number_in y → value_in nothing x ≡ value_in nothing y → x ≡ y
-unfolding number_in value_in
 same_answer nothing (Ok a) (Ok b) e v = ap Ok v
 same_answer nothing (Ok a) (Err s) e v = absurd (number_not_0 s (sym e))
 same_answer nothing (Err r) (Ok b) e v = absurd (number_not_0 r e)
@@ -65,5 +63,4 @@ same_answer nothing (Err r) (Err s) e v = ap Err (same_refusal r s e)
 
 -- where there is no value, the number alone
 pub same_verdict : (x y : Result (Unit {0}) Refusal) → number_in x ≡ number_in y → x ≡ y
-unfolding value_in
 same_verdict x y e = same_answer tt x y e refl

@@ -73,7 +73,7 @@ abbrev pub line_refusal : ℕ → List ℕ → ℕ
 line_refusal k text = given 10 (not (has_line k text)) 0
 
 -- RULES 9.1: the number of each refusal
-unfoldable pub number_of : Refusal → ℕ
+abbrev pub number_of : Refusal → ℕ
 number_of Cards = 1
 number_of Broken = 2
 number_of Modulus = 3
@@ -87,11 +87,11 @@ number_of Text = 10
 number_of Beat = 11
 
 -- The number that an answer stands for: 0 if the call is not refused
-unfoldable pub number_in : {A : Type 0} → Result A Refusal → ℕ
+abbrev pub number_in : {A : Type 0} → Result A Refusal → ℕ
 number_in (Ok answer) = 0
 number_in (Err refusal) = number_of refusal
 
 -- RULES 9.3: "A refused call's value is 0": the answer's value, or the one that stands for 0
-unfoldable pub value_in : {A : Type 0} → A → Result A Refusal → A
+abbrev pub value_in : {A : Type 0} → A → Result A Refusal → A
 value_in nothing (Ok answer) = answer
 value_in nothing (Err refusal) = nothing

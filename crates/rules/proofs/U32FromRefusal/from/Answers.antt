@@ -6,7 +6,6 @@ use Rattle.rules.specs.Refusals.{number_of}
 use Rattle.rules.proofs.U32FromRefusal.from.Goals as goal
 
 discriminant : (r : Refusal) → denote.Enum.Declared.tag_of Rattle.rules.specs.contracts.Refusal.the_type r + 1 ≡ number_of r
-unfolding number_of
 discriminant Cards = refl
 discriminant Broken = refl
 discriminant Modulus = refl
