@@ -4,9 +4,10 @@ use gate::Copy;
 
 const LAG: &str = "crates/lag/src/lib.rt";
 const COLUMNS: &str = "crates/columns/src/lib.rt";
+const RULES: &str = "crates/rules/src/lib.rt";
 const LEMMAS: &str = "crates/lag/proofs/Determined.antt";
 const LIST: &str = "docs/CONTRACTS.md";
-const REFUSAL: &str = "ensures { result ≡ lag_refusal c x y }";
+const REFUSAL: &str = "ensures { number_in result ≡ lag_refusal c x y }";
 
 /// What is reported of a copy with something wrong in it.
 fn reported(name: &str, sabotage: impl Fn(&Copy), lines: &[&str]) {
@@ -54,8 +55,8 @@ fn a_public_routine_without_an_ensures() {
 fn an_internal_routine_without_an_ensures() {
     reported(
         "internal-no-ensures",
-        |copy| copy.replace(COLUMNS, "ensures { result ≡ read_vote m word }", ""),
-        &["contracts: columns::read_vote: it has no ensures"],
+        |copy| copy.replace(RULES, "ensures { result ≡ read_vote m word }", ""),
+        &["contracts: rules::Vote::read: it has no ensures"],
     );
 }
 
@@ -66,13 +67,17 @@ fn a_routine_that_is_not_listed() {
     let plain = format!("\npub fn extra(x: u32) -> u32\n    {promised}\n{{\n    x\n}}\n");
     let in_one_line = format!("\npub fn extra(x: u32) -> u32 {promised} {{ x }}\n");
     let method =
-        format!("\nimpl Column {{\n    pub fn extra(self, x: u32) -> u32 {promised} {{ x }}\n}}\n");
+        format!("\nimpl Column<'_> {{\n    pub fn extra(self, x: u32) -> u32 {promised} {{ x }}\n}}\n");
+    let generic = format!(
+        "\nimpl<'a, T: Is<u8>> Pair<'a, T> {{\n    pub fn extra(self, x: u32) -> u32 {promised} {{ x }}\n}}\n"
+    );
     let inner =
         format!("\nmod inner {{ pub extern \"C\" fn extra(x: u32) -> u32 {promised} {{ x }} }}\n");
     for (file, code, routine) in [
         (LAG, &plain, "lag::extra"),
         (COLUMNS, &in_one_line, "columns::extra"),
         (COLUMNS, &method, "columns::Column::extra"),
+        (COLUMNS, &generic, "columns::Pair::extra"),
         (COLUMNS, &inner, "columns::inner::extra"),
         ("crates/rack/src/broken.rt", &plain, "rack::broken::extra"),
         ("crates/blockrun/src/main.rt", &plain, "blockrun::extra"),
@@ -106,8 +111,8 @@ fn a_row_of_no_routine() {
     );
     reported(
         "no-internal-routine",
-        |copy| copy.replace(COLUMNS, "pub fn read_vote", "pub(crate) fn read_vote"),
-        &["contracts: columns::read_vote: it is listed, but is not a pub fn"],
+        |copy| copy.replace(RULES, "pub fn read", "pub(crate) fn read"),
+        &["contracts: rules::Vote::read: it is listed, but is not a pub fn"],
     );
 }
 
@@ -143,6 +148,25 @@ fn an_internal_routine_that_no_other_crate_calls() {
         },
         &["contracts: groups::step_group: no other crate calls it"],
     );
+}
+
+/// A method is called by its name, with or without what fills its parameters; only by another crate does it count.
+#[test]
+fn a_method_that_no_other_crate_calls() {
+    reported(
+        "not-called-method",
+        |copy| {
+            copy.replace("crates/steps/src/lib.rt", "col.smallest_supported(", "col.supported(");
+        },
+        &["contracts: columns::Column::smallest_supported: no other crate calls it"],
+    );
+    passes("called-method", |copy| {
+        copy.replace(
+            "crates/steps/src/lib.rt",
+            "col.smallest_supported(",
+            "col.smallest_supported::<0>(",
+        )
+    });
 }
 
 /// Names may come in one by one or in lists, on any lines, and under another name.
