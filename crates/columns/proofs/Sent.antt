@@ -2,12 +2,11 @@
 -- such a search finds.
 use mathlib.Core.Path.{◌≡◌, refl, sym, ◌∙◌}
 use mathlib.Core.Bool.{Bool, true, false, not}
-use mathlib.Core.List.{List}
 use mathlib.Core.Logic.{⊎_elim}
 use Prim.Native.Nat.{ℕ, ◌+◌, ◌*◌, ◌-◌, ◌≤◌, ◌<◌}
 use native.Mathlib.Omega.{arith}
 use lib.Dec.{eqb, ltb, leb}
-use borrow.Author.Tests.{eqb-true, eqb-false, lt-ltb, le-ltb, le-leb, lt-leb, eq-eqb, ne_eqb}
+use borrow.Author.Tests.{eqb-true, eqb-false, lt-ltb, le-ltb, le-leb, lt-leb, ne_eqb}
 use Rattle.rules.specs.declared.Vote.{Vote}
 use Rattle.rules.specs.declared.Vote.TheVariants.{Count, None}
 use Rattle.rules.specs.Counting.{count_below, same}
@@ -17,51 +16,37 @@ use Rattle.rules.proofs.Tests.{decided, le_or_lt, lt_or_le}
 use Rattle.rules.proofs.Counting.{count_yes, count_no, count_same, count_not, count_le, count_some, count_split, count_apart}
 use Rattle.rules.proofs.Counting.{least_at, least_none}
 use Rattle.rules.proofs.Votes.{count_none, same_true, same_eq, read_below, read_above, read_is}
-use Rattle.columns.specs.declared.Column.{Column}
-use Rattle.columns.specs.Columns.{word_in, lies}
-
--- does a card's word lie there?
-abbrev pub lies_there : List ℕ → Column → ℕ → ℕ → ℕ → Bool
-lies_there recs col low high v = lies low high (word_in recs col v)
-
-not_same : (v : Vote) (x : ℕ) → (v ≡ Count x → ⊥) → same v (Count x) ≡ false
-not_same v x ne = ⊎_elim
-    (λ (t : same v (Count x) ≡ true). absurd (ne (same_true v (Count x) t)))
-    (λ (t : same v (Count x) ≡ false). t)
-    (decided (same v (Count x)))
 
 -- a word reads as x where it is x, which is below m; it reads as none where it is not below m
-reads_x : (m word x : ℕ) → x < m → lies x (x + 1) word ≡ same (read_vote m word) (Count x)
+reads_x : (m word x : ℕ) → x < m → eqb word x ≡ same (read_vote m word) (Count x)
 unfolding same
 reads_x m word x l = ⊎_elim
-    (λ (w : word < x). rw (lt-leb x word w, read_below m word (omega arith), ne_eqb word x (λ e. omega arith)))
-    (λ (w : x ≤ word). ⊎_elim
-    (λ (v : word ≤ x).
-    rw (le-leb x word w, lt-ltb word (x + 1) (omega arith), read_below m word (omega arith), eq-eqb word x (omega arith)))
-    (λ (v : x < word).
-    rw (le-leb x word w, le-ltb word (x + 1) (omega arith))
-    (sym (not_same (read_vote m word) x (λ e. let r = read_is m word x e in omega (arith, r.0)))))
-    (le_or_lt word x))
-    (lt_or_le word x)
-
-reads_none : (m word : ℕ) → not (lies 0 m word) ≡ same (read_vote m word) None
-unfolding same
-reads_none m word = ⊎_elim
-    (λ (w : word < m). rw (lt-ltb word m w, le-leb 0 word (omega arith), read_below m word w))
-    (λ (w : m ≤ word). rw (le-ltb word m w, le-leb 0 word (omega arith), read_above m word w))
+    (λ (w : word < m). rw (read_below m word w))
+    (λ (w : m ≤ word). rw (ne_eqb word x (λ e. omega arith), read_above m word w))
     (lt_or_le word m)
 
--- so the cards that sent a count, and those that sent none, are counted by their words
+reads_none : (m word : ℕ) → not (ltb word m) ≡ same (read_vote m word) None
+unfolding same
+reads_none m word = ⊎_elim
+    (λ (w : word < m). rw (lt-ltb word m w, read_below m word w))
+    (λ (w : m ≤ word). rw (le-ltb word m w, read_above m word w))
+    (lt_or_le word m)
+
+-- so the cards that sent a count, those that sent another vote and those that sent none are counted by their words
 pub sent_x : (words : ℕ → ℕ) (m n x : ℕ) → x < m
-    → count_below n (λ (u : ℕ). lies x (x + 1) (words u)) ≡ sent_by n (λ (u : ℕ). read_vote m (words u)) (Count x)
+    → count_below n (λ (u : ℕ). eqb (words u) x) ≡ sent_by n (λ (u : ℕ). read_vote m (words u)) (Count x)
 unfolding sent_by
 sent_x words m n x l = count_same n _ _ (λ u lu. reads_x m (words u) x l)
 
+pub sent_other : (words : ℕ → ℕ) (m n x : ℕ) → x < m
+    → count_below n (λ (u : ℕ). not (eqb (words u) x)) + sent_by n (λ (u : ℕ). read_vote m (words u)) (Count x) ≡ n
+sent_other words m n x l = omega (arith, count_not n (λ (u : ℕ). eqb (words u) x), sent_x words m n x l)
+
 pub sent_none : (words : ℕ → ℕ) (m n : ℕ)
-    → count_below n (λ (u : ℕ). lies 0 m (words u)) + sent_by n (λ (u : ℕ). read_vote m (words u)) None ≡ n
+    → count_below n (λ (u : ℕ). ltb (words u) m) + sent_by n (λ (u : ℕ). read_vote m (words u)) None ≡ n
 unfolding sent_by
 sent_none words m n =
-    omega (arith, count_not n (λ (u : ℕ). lies 0 m (words u)), count_same n _ _ (λ (u : ℕ) (lu : u < n). reads_none m (words u)))
+    omega (arith, count_not n (λ (u : ℕ). ltb (words u) m), count_same n _ _ (λ (u : ℕ) (lu : u < n). reads_none m (words u)))
 
 -- no card sent a count that is not below m
 pub sent_never : (words : ℕ → ℕ) (m n x : ℕ) → m ≤ x → sent_by n (λ (u : ℕ). read_vote m (words u)) (Count x) ≡ 0
@@ -85,10 +70,6 @@ pub enough_zero : (n f : ℕ) → leb n f ≡ enough n f 0
 unfolding enough
 enough_zero n f = let e : 0 + f ≡ f = omega arith in rw e
 
-pub count_zero : (p : ℕ → Bool) → count_below 0 p ≡ 0
-unfolding count_below
-count_zero p = refl
-
 -- the further one goes, the more there are
 count_grows : (p : ℕ → Bool) (u n : ℕ) → u ≤ n → count_below u p ≤ count_below n p
 count_grows p u n l =
@@ -102,18 +83,6 @@ more_already p n few u l more = lt-ltb few (count_below n p) (omega (arith, coun
 
 pub never_more : (p : ℕ → Bool) (n few u : ℕ) → u ≡ n → count_below u p ≤ few → ltb few (count_below n p) ≡ false
 never_more p n few u e l = rw (← e) (le-ltb few (count_below u p) l)
-
--- where too many of the first u cards fail a test, the cards that pass it are never enough; at the last card they are
-pub never_enough : (p : ℕ → Bool) (n f u : ℕ) → u ≤ n → count_below u p + f < u → enough n f (count_below n p) ≡ false
-unfolding enough
-never_enough p n f u l few =
-    let e : u + (n - u) ≡ n = omega arith in
-    let s : count_below n p ≡ count_below u p + count_below (n - u) (λ (v : ℕ). p (u + v)) = rw e at (count_split u (n - u) p) in
-    lt-leb n (count_below n p + f) (omega (arith, count_le (n - u) (λ (v : ℕ). p (u + v))))
-
-pub enough_of_all : (p : ℕ → Bool) (n f u : ℕ) → u ≡ n → u ≤ count_below u p + f → enough n f (count_below n p) ≡ true
-unfolding enough
-enough_of_all p n f u e l = rw (← e) (le-leb u (count_below u p + f) l)
 
 -- one card more
 pub sent_yes : (heard : ℕ → Vote) (u : ℕ) (y : Vote) → heard u ≡ y → sent_by (u + 1) heard y ≡ sent_by u heard y + 1
