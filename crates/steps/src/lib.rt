@@ -2,8 +2,8 @@
 
 pub mod pointer; // pointer.rt: which beat of its turn a card follows
 
-ghost use Rattle.std.specs.Prelude.{◌≡◌, ◌+◌, ◌/◌, ◌<◌, ◌≤◌, length};
-ghost use Rattle.rules.specs.OneBeat.{obeyed, step0, step1, step2, gained, three_steps};
+ghost use Rattle.std.specs.Prelude.{◌≡◌, ◌<◌, ◌≤◌};
+ghost use Rattle.rules.specs.OneBeat.{step0, step1, step2, gained, three_steps};
 ghost use Rattle.columns.specs.Columns.{Within, votes_in};
 ghost use Rattle.steps.specs.Standings.{standing, StepAsks, ThreeStepsAsks};
 
@@ -17,74 +17,61 @@ pub struct Standing {
     pub b: bool,
 }
 
-// RULES 5.6: "Step 0. If fewer than n-f cards sent this card's a, a becomes none. b stays."
-fn step_0(recs: &[u16], col: Column, f: u32, c: u32, s: Standing) -> Standing
-    requires { (Within (length recs.now) col) × (f < 256) }
-    ensures { standing result ≡ step0 col.n f (votes_in c recs.now col) (standing s) }
-{
-    let a = s.a;
-    let kept = if columns::sent_enough(recs, col, f as usize, c, a) {
-        a
-    } else {
-        Vote::None
-    };
-    Standing { a: kept, b: s.b }
-}
-
-// RULES 5.6: "Step 1. b becomes 1 if at least n-f cards sent this card's old a, else 0"; "a becomes the smallest count heard more
-// than f times, or none if there is no such count."
-fn step_1(recs: &[u16], col: Column, f: u32, c: u32, s: Standing) -> Standing
-    requires { StepAsks (length recs.now) col f c }
-    ensures { standing result ≡ step1 col.n f c (votes_in c recs.now col) (standing s) }
-{
-    let a = s.a;
-    let b = columns::sent_enough(recs, col, f as usize, c, a);
-    Standing {
-        a: columns::smallest_supported(recs, col, f as usize, c),
-        b: b,
-    }
-}
-
-// RULES 5.6: "If a is none or b is 0, a becomes the king's a, or 0 if the king has none."
-fn obey(a: Vote, b: bool, king: Vote) -> Vote
-    ensures { result ≡ obeyed a b king }
-{
-    match a {
-        Vote::Count(x) => {
-            if b {
-                Vote::Count(x)
-            } else {
-                Vote::Count(pointer::count_or_0(king))
+impl Standing {
+    // RULES 5.6: "Step 0. If fewer than n-f cards sent this card's a, a becomes none. b stays."
+    fn step_0(self, col: Column, f: u32, c: u32) -> Standing
+        requires { (Within col) × (f < 256) }
+        ensures { standing result ≡ step0 col.entry.n f (votes_in c col.entry) (standing self) }
+    {
+        if col.sent_enough(f as usize, c, self.a) {
+            self
+        } else {
+            Standing {
+                a: Vote::None,
+                ..self
             }
         }
-        Vote::None => Vote::Count(pointer::count_or_0(king)),
     }
-}
 
-// RULES 5.6: after step 2 "b becomes 1."
-fn step_2(king: Vote, s: Standing) -> Standing
-    ensures { standing result ≡ step2 king (standing s) }
-{
-    let a = s.a;
-    Standing {
-        a: obey(a, s.b, king),
-        b: true,
+    // RULES 5.6: "Step 1. b becomes 1 if at least n-f cards sent this card's old a, else 0"; "a becomes the smallest count heard
+    // more than f times, or none if there is no such count."
+    fn step_1(self, col: Column, f: u32, c: u32) -> Standing
+        requires { StepAsks col f c }
+        ensures { standing result ≡ step1 col.entry.n f c (votes_in c col.entry) (standing self) }
+    {
+        Standing {
+            a: col.smallest_supported(f as usize, c),
+            b: col.sent_enough(f as usize, c, self.a),
+        }
+    }
+
+    // RULES 5.6: "If a is none or b is 0, a becomes the king's a, or 0 if the king has none."; "b becomes 1."
+    fn step_2(self, king: Vote) -> Standing
+        ensures { standing result ≡ step2 king (standing self) }
+    {
+        match self.a {
+            Vote::Count(_) if self.b => self,
+            _ => Standing {
+                a: Vote::Count(king.count_or_0()),
+                b: true,
+            },
+        }
     }
 }
 
 // RULES 5.6: "d modulo 3 picks the step, and the king is card d/3 of the group."
-pub fn three_steps(recs: &[u16], col: Column, f: u32, c: u32, d: u16, s: Standing) -> Standing
-    requires { ThreeStepsAsks (length recs.now) col f c d }
-    ensures { standing result ≡ three_steps col.n f c (votes_in c recs.now col) d (standing s) }
+pub fn three_steps(col: Column, f: u32, c: u32, d: u16, s: Standing) -> Standing
+    requires { ThreeStepsAsks col f c d }
+    ensures { standing result ≡ three_steps col.entry.n f c (votes_in c col.entry) d (standing s) }
 {
-    if d % 3 == 0 {
-        return step_0(recs, col, f, c, s);
+    match d % 3 {
+        0 => s.step_0(col, f, c),
+        1 => s.step_1(col, f, c),
+        _ => {
+            let king = Vote::read(c, col.said((d / 3) as usize));
+            s.step_2(king)
+        }
     }
-    if d % 3 == 1 {
-        return step_1(recs, col, f, c, s);
-    }
-    let king = columns::read_vote(c, columns::said(recs, col, (d / 3) as usize));
-    step_2(king, s)
 }
 
 // RULES 5.6: "After each step a count gains 1 modulo c; none stays none."

@@ -1,4 +1,4 @@
-ghost use Rattle.std.specs.Prelude.{◌≡◌, ◌*◌, ◌%◌, ◌<◌};
+ghost use Rattle.std.specs.Prelude.{◌≡◌, ◌%◌, ◌<◌};
 ghost use Rattle.rules.specs.Counting.{count_or0};
 ghost use Rattle.rules.specs.OneBeat.{trusted, pointer, pointed, phase};
 ghost use Rattle.steps.specs.Pointers.{TurnOf};
@@ -12,15 +12,6 @@ pub fn trusted_vote(wait: u16, vote: Vote) -> Vote
     if wait == 0 { vote } else { Vote::None }
 }
 
-pub fn count_or_0(x: Vote) -> u16
-    ensures { result ≡ count_or0 x }
-{
-    match x {
-        Vote::Count(i) => i,
-        Vote::None => 0,
-    }
-}
-
 // RULES 5.5: "The pointer pi is di divided by 3^i·t; it is none if di is none."; "If it follows the pointer p, its phase d is dp modulo
 // t. If there is no pointer, or dp is none, d is 0."
 fn phase_by(part: u16, t: u16, d: Vote, d0: Vote, d1: Vote) -> u16
@@ -28,13 +19,8 @@ fn phase_by(part: u16, t: u16, d: Vote, d0: Vote, d1: Vote) -> u16
     ensures { result ≡ count_or0 (pointed (pointer part d) d0 d1) % t }
 {
     match d {
-        Vote::Count(x) => {
-            if x / part == 0 {
-                count_or_0(d0) % t
-            } else {
-                count_or_0(d1) % t
-            }
-        }
+        Vote::Count(x) if x / part == 0 => d0.count_or_0() % t,
+        Vote::Count(_) => d1.count_or_0() % t,
         Vote::None => 0,
     }
 }
@@ -44,15 +30,10 @@ pub fn phase_of(half: usize, f: u32, t: u16, d0: Vote, d1: Vote) -> u16
     requires { TurnOf f t }
     ensures { result ≡ phase half f d0 d1 }
 {
-    if half == 0 {
-        match d0 {
-            Vote::Count(_) => phase_by(t, t, d0, d0, d1),
-            Vote::None => phase_by(3 * t, t, d1, d0, d1),
-        }
-    } else {
-        match d1 {
-            Vote::Count(_) => phase_by(3 * t, t, d1, d0, d1),
-            Vote::None => phase_by(t, t, d0, d0, d1),
-        }
+    match (half, d0, d1) {
+        (0, Vote::Count(_), _) => phase_by(t, t, d0, d0, d1),
+        (0, Vote::None, _) => phase_by(3 * t, t, d1, d0, d1),
+        (_, _, Vote::Count(_)) => phase_by(3 * t, t, d1, d0, d1),
+        (_, _, Vote::None) => phase_by(t, t, d0, d0, d1),
     }
 }
