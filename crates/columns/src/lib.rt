@@ -6,7 +6,6 @@ ghost use Rattle.rules.specs.OneBeat.{enough, sent_by, most_frequent, vote, supp
 ghost use Rattle.columns.specs.Columns.{Within, MostFrequentAsks, VoteAsks, Computes, word_in, votes_in, leader};
 
 use rules::Vote;
-use std::cmp::Ordering;
 
 // The word `at` of each of n cards, from the card `first` on, in the table `recs` of `cards` records of w words.
 #[derive(Clone, Copy)]
@@ -27,10 +26,13 @@ const TALLY: usize = 128;
 fn lead(best: usize, most: u8, x: usize, t: u8) -> usize
     ensures { result ≡ leader best most x t }
 {
-    match most.cmp(&t) {
-        Ordering::Less => x,
-        Ordering::Equal => best.min(x),
-        Ordering::Greater => best,
+    // Not a `match` on `most.cmp(&t)`: its three-way answer costs nine instructions more for each card that counts.
+    if most < t {
+        x
+    } else if t < most {
+        best
+    } else {
+        best.min(x)
     }
 }
 

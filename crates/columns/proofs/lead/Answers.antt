@@ -3,14 +3,14 @@ use Rattle.std.proofs.lemmas.Grind.{common_steps}
 use Rattle.columns.specs.Columns.{leader}
 use Rattle.columns.proofs.lead.Goals as goal
 
-pub returns-in-Less : goal.returns-in-Less
+pub returns-then-most-t : goal.returns-then-most-t
 unfolding leader
-returns-in-Less c = grind (arith, common_steps)
+returns-then-most-t c = grind (arith, common_steps)
 
-pub returns-in-Equal : goal.returns-in-Equal
+pub returns-then-t-most : goal.returns-then-t-most
 unfolding leader
-returns-in-Equal c = grind (arith, common_steps)
+returns-then-t-most c = grind (arith, common_steps)
 
-pub returns-in-Greater : goal.returns-in-Greater
+pub returns-else-t-most : goal.returns-else-t-most
 unfolding leader
-returns-in-Greater c = grind (arith, common_steps)
+returns-else-t-most c = grind (arith, common_steps)
