@@ -9,7 +9,8 @@ use Rattle.columns.specs.declared.Column.{Column}
 use Rattle.columns.specs.Columns.{votes_in, word_in}
 use Rattle.columns.proofs.Sent.{sent_x, supported_found, supported_none}
 use Rattle.columns.proofs.Column.smallest_supported.Goals as goal
-use Rattle.columns.proofs.Column.smallest_supported.Goals.{then-x-best+then-more_than, else-x-best, else-x-best-via-then-x-best+else-more_than, else-x-best-via-else-x-best}
+use Rattle.columns.proofs.Column.smallest_supported.Goals.{then-x-best+then-more_than, else-x-best}
+use Rattle.columns.proofs.Column.smallest_supported.Goals.{else-x-best-via-then-x-best+else-more_than, else-x-best-via-else-x-best}
 
 pub loop-u-preserved : goal.loop-u-preserved
 loop-u-preserved c =
