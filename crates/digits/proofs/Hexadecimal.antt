@@ -10,12 +10,11 @@ use native.Mathlib.Omega.{arith}
 use borrow.Author.Tests.{lt-ltb, le-ltb, le-leb, lt-leb, leb-true, eqb-true}
 use lib.Dec.{leb, eqb}
 use lib.ListN.{length, get_or, take, drop, length-drop}
-use lib.Seq.{take-suc, drop-cons, get_or-drop, get_or_at}
+use lib.Seq.{take-suc, get_or-drop, get_or_at}
 use Rattle.rules.specs.Counting.{rows}
 use Rattle.rules.specs.Text.{digit_of, is_digit, value_of, hex_of, number_at, all_digits, well_formed}
 use Rattle.rules.proofs.Tests.{le_or_lt, and_left, and_right, and_both}
 use Rattle.rules.proofs.Lists.{before_seam, rows_same, tabulate_length, tabulate_at}
-use Rattle.digits.specs.Readable.{Readable}
 
 -- a value below 16 is that of its digit
 pub value_of_digit : (x : ℕ) → x < 16 → value_of (digit_of x) ≡ x
@@ -91,24 +90,12 @@ unfolding all_digits rows
 digits_rows zero g h = refl
 digits_rows (suc n) g h = digits_append (rows n g) (g n) (digits_rows n g h) (h n)
 
--- one character less to look at
-pub digits_from : (text : List ℕ) (i : ℕ) → i < length text
-    → all_digits (drop i text) ≡ is_digit (get_or text i 0) && all_digits (drop (i + 1) text)
-unfolding all_digits
-digits_from text i l = rw (add-one i, drop-cons text i 0 l)
-
 -- what is known of a text that is not refused by 10
 pub formed : (size : ℕ) (text : List ℕ) → well_formed size text ≡ true → (length text ≡ size) × (all_digits text ≡ true)
 unfolding well_formed
 formed size text e =
     let long = eqb (length text) size in
     (eqb-true (length text) size (and_left long (all_digits text) e), and_right long (all_digits text) e)
-
-pub readable : (size : ℕ) (text : List ℕ) → well_formed size text ≡ true → (at digits : ℕ) → at + digits ≤ size
-    → Readable text at digits
-readable size text e at digits l =
-    let t = formed size text e in
-    record { digits_alone = t.1; inside = omega arith }
 
 -- the last digit of a number, and the digits of the rest
 pub hex_last : (k x : ℕ) → hex_of (suc k) x ≡ hex_of k (x / 16) ++ (digit_of (x % 16) ∷ [])

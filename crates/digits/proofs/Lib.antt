@@ -1,3 +1,4 @@
+pub mod Parts
 pub mod Hexadecimal
 pub mod Stores
 pub mod WordsOfText

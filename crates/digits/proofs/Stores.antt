@@ -1,12 +1,13 @@
 -- Laws of storing lists one after the other.
-use mathlib.Core.Path.{◌≡◌, refl, ◌∙◌}
-use mathlib.Core.List.{List, [], ◌∷◌, ◌++◌, append-nil}
+use mathlib.Core.Path.{◌≡◌, sym, ◌∙◌}
+use mathlib.Core.List.{List, [], ◌∷◌, ◌++◌, append-nil, append_assoc}
 use Prim.Native.Nat.{ℕ, suc, ◌+◌, ◌*◌, ◌≤◌}
 use native.Mathlib.Nat.{add-zero}
 use native.Mathlib.Numerals.{add-one}
 use native.Mathlib.Omega.{arith}
-use lib.ListN.{length, set, drop_of_length-le}
-use lib.Seq.{sets, sets-eq, set_comm}
+use borrow.Rule.Slice.PartMut.{put_mid}
+use lib.ListN.{length, set, take, drop, drop_of_length-le}
+use lib.Seq.{sets, sets-eq, drop-drop}
 use Rattle.rules.specs.Counting.{rows}
 use Rattle.rules.proofs.Lists.{rows_length}
 
@@ -17,15 +18,15 @@ sets_append (a ∷ p) q l i =
     let e : suc i + length p ≡ i + suc (length p) = omega arith in
     sets_append p q (set l i a) (suc i) ∙ rw e
 
--- what is stored behind the part may be stored first
-pub sets_behind : (p l : List ℕ) (i j a : ℕ) → i + length p ≤ j → set (sets l i p) j a ≡ sets (set l j a) i p
-sets_behind [] l i j a h = refl
-sets_behind (b ∷ p) l i j a h =
-    sets_behind p (set l i b) (suc i) j a (omega arith) ∙ rw (set_comm l i j b a (omega arith))
-
 -- all of a list is overwritten
 pub sets_all : (l p : List ℕ) → length l ≡ length p → sets l 0 p ≡ p
 sets_all l p e = sets-eq p l 0 (omega arith) ∙ rw (drop_of_length-le l {i = 0 + length p} (omega arith)) (append-nil p)
+
+-- a part of n that was written, as `&mut l[a..b]` is given back
+pub part_back : (p l : List ℕ) (a n : ℕ) → length p ≡ n → a + n ≤ length l → put_mid a n l p ≡ sets l a p
+part_back p l a n e h =
+    let q : a + n ≡ a + length p = omega arith in
+    sym (sets-eq p l a (omega arith) ∙ rw (drop-drop n a l, q) (append_assoc (take a l) p (drop (a + length p) l)))
 
 -- one row more
 pub rows_more : (l : List ℕ) (at i w p : ℕ) (g : ℕ → List ℕ) → ((j : ℕ) → length (g j) ≡ w) → at + i * w ≡ p

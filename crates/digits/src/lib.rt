@@ -1,10 +1,8 @@
 // Hexadecimal digits, and the numbers that they make: "lower case, the high digit first" (RULES 10.2).
 #![tactic(auto)]
 
-ghost use Rattle.std.specs.Prelude.{◌≡◌, true, ◌&&◌, ◌+◌, ◌*◌, ◌%◌, ◌<◌, ◌≤◌, leb, length};
-ghost use Rattle.std.proofs.lemmas.List.Edits.{sets};
-ghost use Rattle.rules.specs.Text.{digit_of, is_digit, value_of, hex_of, number_at, well_formed};
-ghost use Rattle.digits.specs.Readable.{Readable};
+ghost use Rattle.std.specs.Prelude.{◌≡◌, true, ◌%◌, ◌<◌, ◌≤◌, length};
+ghost use Rattle.rules.specs.Text.{digit_of, is_digit, value_of, hex_of, number_at, all_digits, well_formed};
 
 pub mod words; // words.rt: words of four digits
 
@@ -13,38 +11,28 @@ const DECIMAL: u8 = b'0';
 
 const LETTER: u8 = b'a' - 10;
 
-fn within(low: u8, ch: u8, high: u8) -> bool
-    ensures { result ≡ (leb low ch && leb ch high) }
-{
-    if ch < low {
-        return false;
-    }
-    ch <= high
-}
-
-// Is it one of 0-9, a-f?
+#[tactic(auto, unfolding(rules::specs::Text::is_digit))]
 fn is_digit(ch: u8) -> bool
     ensures { result ≡ is_digit ch }
 {
-    if within(b'0', ch, b'9') {
-        return true;
-    }
-    within(b'a', ch, b'f')
+    matches!(ch, b'0'..=b'9' | b'a'..=b'f')
 }
 
 // The value of a digit.
+#[tactic(auto, using(crate::proofs::Hexadecimal::digit_cases), unfolding(rules::specs::Text::value_of))]
 fn value_of(ch: u8) -> u32
     requires { is_digit ch ≡ true }
     ensures { result ≡ value_of ch }
 {
     if ch <= b'9' {
-        (ch - DECIMAL) as u32
+        u32::from(ch - DECIMAL)
     } else {
-        (ch - LETTER) as u32
+        u32::from(ch - LETTER)
     }
 }
 
 // The digit of a value.
+#[tactic(auto, unfolding(rules::specs::Text::digit_of))]
 fn digit_of(x: u8) -> u8
     requires { x < 16 }
     ensures { result ≡ digit_of x }
@@ -62,39 +50,29 @@ fn last_digit(x: u32) -> u8
 pub fn well_formed(text: &[u8], size: usize) -> bool
     ensures { result ≡ well_formed size text.now }
 {
-    if text.len() != size {
-        return false;
-    }
-    for i in 0..size {
-        if !is_digit(text[i]) {
-            return false;
-        }
-    }
-    true
+    text.len() == size && text.iter().all(|&ch| is_digit(ch))
 }
 
-// The number that some digits from a place on make.
-pub fn number_at(text: &[u8], at: usize, digits: usize) -> u32
-    requires { (Readable text.now at digits) × (digits ≤ 8) }
-    ensures { result ≡ number_at text.now at digits }
+// The number that some digits make.
+pub fn number_of(digits: &[u8]) -> u32
+    requires digits_alone { all_digits digits.now ≡ true }
+    requires fits { length digits.now ≤ 8 }
+    ensures { result ≡ number_at digits.now 0 (length digits.now) }
 {
     let mut number: u32 = 0;
-    for i in 0..digits {
-        number = 16 * number + value_of(text[at + i]);
+    for &ch in digits {
+        number = 16 * number + value_of(ch);
     }
     number
 }
 
-// Writes a number at a place, in a given number of digits, from its last digit on.
-pub fn put_number(out: &mut [u8], at: usize, digits: usize, number: u32)
-    requires { at + digits ≤ length out.old }
-    ensures { out.new ≡ sets out.old at (hex_of digits number) }
+// Fills a buffer with a number's digits, from the last one on. By places: after `iter_mut().rev()` the proof does not close.
+pub fn put_number(out: &mut [u8], number: u32)
+    ensures { out.new ≡ hex_of (length out.old) number }
 {
-    let mut left = digits;
     let mut rest = number;
-    while 0 < left {
-        left -= 1;
-        out[at + left] = last_digit(rest);
+    for place in (0..out.len()).rev() {
+        out[place] = last_digit(rest);
         rest /= 16;
     }
 }

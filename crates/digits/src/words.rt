@@ -1,45 +1,34 @@
-// Words, one after the other. "A word is 4 digits." (RULES 10.2)
-ghost use Rattle.std.specs.Prelude.{◌≡◌, ◌+◌, ◌*◌, ◌≤◌, length};
-ghost use Rattle.std.proofs.lemmas.List.Edits.{sets};
-ghost use Rattle.rules.specs.Text.{hex_of, number_at, text_of, words_at};
-ghost use Rattle.digits.specs.Readable.{Readable};
+// Words, one after the other. "A word is 4 digits." (RULES 10.2) Parts are cut by places: over chunks that are zipped with the words
+// the proofs do not close, since what the loop writes is not known after it.
+ghost use Rattle.std.specs.Prelude.{◌≡◌, true, ◌*◌, length};
+ghost use Rattle.rules.specs.Text.{hex_of, text_of, well_formed, words_at};
 
-use super::{number_at, put_number};
+use super::{number_of, put_number};
 
-// The word whose four digits are at a place.
-fn word_at(text: &[u8], at: usize) -> u16
-    requires { Readable text.now at 4 }
-    ensures { result ≡ number_at text.now at 4 }
+// Fills four characters with a word.
+pub fn put_word(out: &mut [u8], word: u16)
+    requires { length out.old ≡ 4 }
+    ensures { out.new ≡ hex_of 4 word }
 {
-    number_at(text, at, 4) as u16
+    put_number(out, u32::from(word));
 }
 
-// Writes a word at a place.
-pub fn put_word(out: &mut [u8], at: usize, word: u16)
-    requires { at + 4 ≤ length out.old }
-    ensures { out.new ≡ sets out.old at (hex_of 4 word) }
+// Reads as many words as the buffer holds.
+pub fn read_words(text: &[u8], out: &mut [u16])
+    requires { well_formed (4 * length out.old) text.now ≡ true }
+    ensures { out.new ≡ words_at text.now 0 (length out.old) }
 {
-    put_number(out, at, 4, word as u32);
-}
-
-// Reads as many words as the buffer holds, from a place on.
-pub fn words_at(text: &[u8], at: usize, out: &mut [u16])
-    requires { Readable text.now at (4 * length out.old) }
-    ensures { out.new ≡ words_at text.now at (length out.old) }
-{
-    let count = out.len();
-    for i in 0..count {
-        out[i] = word_at(text, at + 4 * i);
+    for (i, word) in out.iter_mut().enumerate() {
+        *word = number_of(&text[4 * i..4 * i + 4]) as u16;
     }
 }
 
-// Writes words from a place on.
-pub fn put_words(out: &mut [u8], at: usize, words: &[u16])
-    requires { at + 4 * length words.now ≤ length out.old }
-    ensures { out.new ≡ sets out.old at (text_of words.now) }
+// Fills a buffer with the text of some words.
+pub fn put_words(out: &mut [u8], words: &[u16])
+    requires { length out.old ≡ 4 * length words.now }
+    ensures { out.new ≡ text_of words.now }
 {
-    let count = words.len();
-    for i in 0..count {
-        put_word(out, at + 4 * i, words[i]);
+    for (i, &word) in words.iter().enumerate() {
+        put_word(&mut out[4 * i..4 * i + 4], word);
     }
 }
