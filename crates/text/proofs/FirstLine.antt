@@ -1,29 +1,22 @@
 -- Laws of the lines of a text: the first one and the others, line k and whether it is there.
 use mathlib.Core.Path.{◌≡◌, refl, sym, ap, ◌∙◌}
 use mathlib.Core.Logic.{⊎_elim}
-use mathlib.Core.Bool.{true, false}
+use mathlib.Core.Bool.{Bool, true, false}
 use mathlib.Core.List.{List, [], ◌∷◌}
 use Prim.Native.Nat.{ℕ, suc, ◌+◌, ◌-◌, ◌≤◌, ◌<◌}
 use native.Mathlib.Nat.{add-zero}
 use native.Mathlib.Numerals.{add-one}
 use native.Mathlib.Omega.{arith}
-use borrow.Author.Tests.{le-leb, lt-leb, eq-eqb, ne_eqb}
-use lib.Dec.{eqb, leb}
+use borrow.Author.Tests.{le-leb, lt-leb, ltb-false}
+use lib.Dec.{eqb, leb, ltb}
+use Rattle.std.specs.Prelude.{Option, Some, None, position}
+use Rattle.std.specs.List.{position_or_len}
+use Rattle.std.proofs.lemmas.List.Recursion.{is_position_or_len}
 use lib.ListN.{length, get_or, take, drop, length-drop, drop_of_length-le}
 use lib.Seq.{drop-cons, drop-drop, get_or-drop, length-take-le}
 use Rattle.rules.specs.Text.{line_feed, one_more, in_front, lines_of, has_line, line_at, span_of, start_of}
 use Rattle.rules.proofs.Tests.{decided}
-use Rattle.text.specs.Lines.{line_length, end_from, Placed}
-
--- at a line feed the line is at its end; before any other character it has one more
-pub feed_here : (text : List ℕ) (i : ℕ) → i < length text → get_or text i 0 ≡ line_feed → line_length (drop i text) ≡ 0
-unfolding line_length
-feed_here text i l e = rw (drop-cons text i 0 l, eq-eqb _ _ e)
-
-pub no_feed_here : (text : List ℕ) (i : ℕ) → i < length text → (get_or text i 0 ≡ line_feed → ⊥)
-    → line_length (drop i text) ≡ line_length (drop (i + 1) text) + 1
-unfolding line_length
-no_feed_here text i l h = rw (drop-cons text i 0 l, ne_eqb _ _ h, add-one i, add-one)
+use Rattle.text.specs.Lines.{line_length, end_from, Stands}
 
 pub line_ended : (text : List ℕ) (i : ℕ) → length text ≤ i → line_length (drop i text) ≡ 0
 unfolding line_length
@@ -36,6 +29,33 @@ length_fits (ch ∷ rest) = ⊎_elim
     (λ e. rw e (omega arith))
     (λ e. rw e (omega (arith, length_fits rest)))
     (decided (eqb ch line_feed))
+
+abbrev pub is_feed : ℕ → Bool
+is_feed ch = eqb ch line_feed
+
+-- what the search for a line feed tells: how long the line is
+length_is : (t : List ℕ) → line_length t ≡ position_or_len is_feed t
+unfolding line_length
+length_is t =
+    is_position_or_len line_length is_feed refl
+    (λ ch rest. let e : suc (line_length rest) ≡ 1 + line_length rest = omega arith in rw e) t
+
+pub feed_at : (t : List ℕ) (n : ℕ) → Some n ≡ position is_feed t → n ≡ line_length t
+feed_at t n e =
+    let p = position_or_len is_feed t in
+    let same = length_is t in
+    ⊎_elim
+    (λ (b : ltb p (length t) ≡ true). let q : Some n ≡ Some p = rw b at e in cc)
+    (λ (b : ltb p (length t) ≡ false). let q : Some n ≡ None = rw b at e in absurd cc)
+    (decided (ltb p (length t)))
+
+pub no_feed : (t : List ℕ) → None ≡ position is_feed t → length t ≡ line_length t
+no_feed t e =
+    let p = position_or_len is_feed t in
+    ⊎_elim
+    (λ (b : ltb p (length t) ≡ true). let q : ◌≡◌ {A = Option ℕ} None (Some p) = rw b at e in absurd cc)
+    (λ (b : ltb p (length t) ≡ false). omega (arith, ltb-false p (length t) b, length_is t, length_fits t))
+    (decided (ltb p (length t)))
 
 pub end_within : (text : List ℕ) (start : ℕ) → start ≤ length text → end_from text start ≤ length text
 end_within text start l = omega (arith, length_fits (drop start text), length-drop start text)
@@ -90,25 +110,25 @@ no_line k text l e =
     let n : length (lines_of text) - (k - 1) ≡ 0 = sym (length-drop (k - 1) (lines_of text)) ∙ ap length e in
     rw (le-leb 1 k l, lt-leb k (length (lines_of text)) (omega arith))
 
+pub no_line_0 : (text : List ℕ) (k : ℕ) → k ≡ 0 → has_line k text ≡ false
+unfolding has_line
+no_line_0 text k e = rw e
+
 -- where line k stands, once the k - 1 lines before it are passed
 pub line_stands : (k : ℕ) (text : List ℕ) (start left : ℕ) → 0 < k → start < length text → left ≡ 0
     → drop left (lines_of (drop start text)) ≡ drop (k - 1) (lines_of text)
     → start + span_of (take left (lines_of (drop start text))) ≡ span_of (take (k - 1) (lines_of text))
-    → Placed k text (record { found = true; start = start; end = end_from text start })
+    → Stands k text (record { start = start; end = end_from text start })
 unfolding start_of span_of
 line_stands k text start left l inside none here passed =
     let t = line_there k text _ _ l (sym (rw none at here) ∙ lines_from text start inside) in
     let begins : start + 0 ≡ span_of (take (k - 1) (lines_of text)) = rw none at passed in
     let size = part_length text start (omega arith) in
     record {
-      found = sym t.0;
+      found = t.0;
       start = rw t.0 (omega arith);
       end = rw (t.0, t.1) (omega arith);
       ordered = omega arith;
       within = end_within text start (omega arith);
       part = sym t.1;
     }
-
-pub no_line_stands : (k : ℕ) (text : List ℕ) → has_line k text ≡ false → Placed k text (record { found = false; start = 0; end = 0 })
-unfolding start_of line_at
-no_line_stands k text e = record { found = sym e; start = rw e; end = rw e; ordered = omega arith; within = omega arith; part = rw e }

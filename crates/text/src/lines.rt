@@ -3,56 +3,37 @@
 ghost use Rattle.std.specs.Prelude.{◌≡◌};
 ghost use Rattle.text.specs.Lines.{end_from, Placed};
 
-const LINE_FEED: u8 = 10;
+use std::ops::Range;
 
-// Where a line is, and whether there is one: a missing line is an empty part.
-#[derive(Clone, Copy)]
-pub(crate) struct Place {
-    pub(crate) found: bool,
-    pub(crate) start: usize,
-    pub(crate) end: usize,
-}
+const LINE_FEED: u8 = 10;
 
 // The line that begins at a place ends at the next line feed, or with the text. The next line begins one further on.
 pub fn line_end(text: &[u8], start: usize) -> usize
     ensures { result ≡ end_from text.now start }
 {
-    let mut end = start;
-    while end < text.len() {
-        if text[end] == LINE_FEED {
-            return end;
-        }
-        end += 1;
+    let Some(rest) = text.get(start..) else {
+        return start;
+    };
+    match rest.iter().position(|&ch| ch == LINE_FEED) {
+        Some(length) => start + length,
+        None => text.len(),
     }
-    end
 }
 
 // Line k, in one pass. "What follows the last line feed is a line only if it has a character." (RULES 10.3)
-pub(crate) fn place_of(text: &[u8], k: u32) -> Place
+pub(crate) fn place_of(text: &[u8], k: u32) -> Option<Range<usize>>
     ensures { Placed k text.now result }
 {
-    let nowhere = Place {
-        found: false,
-        start: 0,
-        end: 0,
-    };
-    if k == 0 {
-        return nowhere;
-    }
-    let mut left = k - 1;
-    let mut start: usize = 0;
-    while start < text.len() {
-        let end = line_end(text, start);
-        let next = end + 1;
-        if left == 0 {
-            return Place {
-                found: true,
-                start,
-                end,
-            };
+    let mut start = 0;
+    for number in 1..=k {
+        if text.len() <= start {
+            return None;
         }
-        left -= 1;
-        start = next;
+        let end = line_end(text, start);
+        if number == k {
+            return Some(start..end);
+        }
+        start = end + 1;
     }
-    nowhere
+    None
 }
