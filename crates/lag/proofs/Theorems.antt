@@ -24,11 +24,11 @@ ahead_round : (c x y d : ℕ) → x < y → y + d ≡ x + c → ahead c x y ≡ 
 ahead_round c x y d l e = rw (lt-leb y x l) (omega arith)
 
 -- the lag is that way, or the way back
-pub lag_on : (c x y d : ℕ) → ahead c x y ≡ d → 2 * d ≤ c → lag_of c x y ≡ pos d
+lag_on : (c x y d : ℕ) → ahead c x y ≡ d → 2 * d ≤ c → lag_of c x y ≡ pos d
 unfolding lag_of nearest
 lag_on c x y d e l = rw (e, le-leb (2 * d) c l)
 
-pub lag_back : (c x y d b : ℕ) → ahead c x y ≡ d → c < 2 * d → d + b ≡ c → lag_of c x y ≡ neg_ℤ (pos b)
+lag_back : (c x y d b : ℕ) → ahead c x y ≡ d → c < 2 * d → d + b ≡ c → lag_of c x y ≡ neg_ℤ (pos b)
 unfolding lag_of nearest
 lag_back c x y d b e l s = let r : c - d ≡ b = omega arith in rw (e, lt-leb (2 * d) c l, r)
 
