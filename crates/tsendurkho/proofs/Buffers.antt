@@ -9,7 +9,6 @@ use lib.Seq.{length-take-le}
 use Rattle.rules.specs.Parameters.{record_words}
 use Rattle.rules.specs.Refusals.{step_refusal, step_bytes_refusal}
 use Rattle.rules.proofs.Records.{words_most}
-use Rattle.tsendurkho.specs.Buffers.{StepBuffers}
 use Rattle.tsendurkho.proofs.Accepted.{StepBytes, accepted}
 
 -- the front of an array of zeros, with a word for two bytes
@@ -42,18 +41,12 @@ pub record Buffers (n f c card size records out : ℕ) : Type 0 where
   pub next : Lent 25 out
   pub accepts : step_refusal n f c card (length (front size records)) (length (front 25 out)) ≡ 0
 
-pub buffers : (n f c card size records out : ℕ) → step_bytes_refusal n f c card records out ≡ 0
-    → (StepBytes n f c card records out → n * record_words f ≤ size)
+pub buffers : (n f c card size records out : ℕ) → step_bytes_refusal n f c card records out ≡ 0 → records ≤ 2 * size
     → Buffers n f c card size records out
-buffers n f c card size records out z room =
+buffers n f c card size records out z fits =
     let s = accepted n f c card records out z in
-    let table = lent size records _ s.records_whole (room s) in
+    let table = lent size records _ s.records_whole (omega (arith, s.records_whole)) in
     let next = lent 25 out _ s.out_whole (words_most f s.shape.broken) in
     let t : length (front size records) ≡ n * record_words f = omega (arith, table.whole, s.records_whole) in
     let w : length (front 25 out) ≡ record_words f = omega (arith, next.whole, s.out_whole) in
     record { table = table; next = next; accepts = rw (t, w) s.on_words }
-
-pub on_words : {n f c card size : ℕ} (records out : List ℕ) → Buffers n f c card size (length records) (length out)
-    → StepBuffers n f c card records out (front size (length records)) (front 25 (length out))
-on_words records out b =
-    record { heard_whole = b.table.whole; next_whole = b.next.whole; accepted = b.accepts; zeros = b.next.zeros }

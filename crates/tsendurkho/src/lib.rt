@@ -2,12 +2,11 @@
 // first." (RULES 10.1)
 #![tactic(auto)]
 
-ghost use Rattle.std.specs.Prelude.{◌≡◌, ◌≤◌, length};
+ghost use Rattle.std.specs.Prelude.{◌≡◌, ◌*◌, ◌≤◌, length};
 ghost use Rattle.rules.specs.Counting.{tabulate};
 ghost use Rattle.rules.specs.Bytes.{word_at, bytes_of};
 ghost use Rattle.rules.specs.Refusals.{step_bytes_refusal, lag_refusal};
 ghost use Rattle.rules.specs.Calls.{step_out, step_bytes_out, lag_answer};
-ghost use Rattle.tsendurkho.specs.Buffers.{StepBuffers};
 
 // Lengths in bytes, two to a word: "An odd number of bytes is a wrong length." (RULES 10.1)
 const BYTES: u8 = 2;
@@ -20,66 +19,28 @@ const MOST_TABLE: usize = 400;
 // n·W of 7 cards with f = 1, and one more.
 const FEW_WORDS: usize = 64;
 
-// A step that is not refused, on words: those of the records heard, and those of the next record.
-fn step_words(
+// A step that is not refused, of a rack whose table has TABLE words at most: clearing the largest buffer would cost a small
+// rack 7 % more.
+fn step_within<const TABLE: usize>(
     n: u32,
     f: u32,
     c: u32,
     card: u32,
     records: &[u8],
-    heard: &mut [u16],
-    next: &mut [u16],
     out: &mut [u8],
 )
-    requires { StepBuffers n f c card records.now out.old heard.old next.old }
-    ensures { out.new ≡ bytes_of
-        (step_out n f c card (tabulate (length heard.old) (word_at records.now)) next.old) }
+    requires accepted { step_bytes_refusal n f c card (length records.now) (length out.old) ≡ 0 }
+    requires small { TABLE ≤ 400 }
+    requires fits { length records.now ≤ 2 * TABLE }
+    ensures { out.new ≡ step_bytes_out n f c card records.now out.old }
 {
+    let mut heard = [0u16; TABLE];
+    let heard = &mut heard[..records.len() / 2];
+    let mut next = [0u16; MOST_WORDS];
+    let next = &mut next[..out.len() / 2];
     wordbytes::decode(records, heard);
     card::put_next(n, f, c, card, heard, next);
     wordbytes::encode(next, out);
-}
-
-// A step that is not refused, of a rack whose table is small: clearing the largest buffer would cost it 7 % more.
-fn step_few(n: u32, f: u32, c: u32, card: u32, records: &[u8], out: &mut [u8])
-    requires { (step_bytes_refusal n f c card (length records.now) (length out.old) ≡ 0) × (length records.now ≤ 128) }
-    ensures { out.new ≡ step_bytes_out n f c card records.now out.old }
-{
-    let mut heard = [0u16; FEW_WORDS];
-    let mut next = [0u16; MOST_WORDS];
-    let size = records.len() / 2;
-    let w = out.len() / 2;
-    step_words(
-        n,
-        f,
-        c,
-        card,
-        records,
-        &mut heard[..size],
-        &mut next[..w],
-        out,
-    );
-}
-
-// The same for any rack.
-fn step_many(n: u32, f: u32, c: u32, card: u32, records: &[u8], out: &mut [u8])
-    requires { step_bytes_refusal n f c card (length records.now) (length out.old) ≡ 0 }
-    ensures { out.new ≡ step_bytes_out n f c card records.now out.old }
-{
-    let mut heard = [0u16; MOST_TABLE];
-    let mut next = [0u16; MOST_WORDS];
-    let size = records.len() / 2;
-    let w = out.len() / 2;
-    step_words(
-        n,
-        f,
-        c,
-        card,
-        records,
-        &mut heard[..size],
-        &mut next[..w],
-        out,
-    );
 }
 
 // One card's step: the card's next record, from the n records that it hears.
@@ -100,9 +61,9 @@ pub extern "C" fn tsendurkho_step(
         return refusal;
     }
     if records.len() <= 2 * FEW_WORDS {
-        step_few(n, f, c, card, records, out);
+        step_within::<FEW_WORDS>(n, f, c, card, records, out);
     } else {
-        step_many(n, f, c, card, records, out);
+        step_within::<MOST_TABLE>(n, f, c, card, records, out);
     }
     0
 }
