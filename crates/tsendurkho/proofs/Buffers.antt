@@ -9,7 +9,7 @@ use lib.Seq.{length-take-le}
 use Rattle.rules.specs.Parameters.{record_words}
 use Rattle.rules.specs.Refusals.{step_refusal, step_bytes_refusal}
 use Rattle.rules.proofs.Records.{words_most}
-use Rattle.tsendurkho.proofs.Accepted.{StepBytes, accepted}
+use Rattle.tsendurkho.proofs.Accepted.{accepted}
 
 -- the front of an array of zeros, with a word for two bytes
 abbrev pub front : ℕ → ℕ → List ℕ

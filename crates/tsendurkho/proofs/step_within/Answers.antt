@@ -1,5 +1,4 @@
 -- `step_within` meets its contract: the buffers are as long as the step on their words needs, and that is the step on bytes.
-use borrow.Author.Rules.{rules}
 use mathlib.Core.Path.{◌≡◌, ◌∙◌}
 use native.Mathlib.Omega.{arith}
 use lib.ListN.{length}
@@ -36,4 +35,4 @@ returns g c =
     let a = c.args in
     let b = buffers a.n a.f a.c a.card g.row.TABLE _ _ c.requires.accepted c.requires.fits in
     c.encode.ensures ∙ rw (c.put_next.ensures, c.decode.ensures)
-        (step_same a.n a.f a.c a.card _ a.records.now a.out.now _ c.requires.accepted b.table.whole b.next.whole)
+    (step_same a.n a.f a.c a.card _ a.records.now a.out.now _ c.requires.accepted b.table.whole b.next.whole)
