@@ -3,10 +3,11 @@
 #![tactic(auto)]
 
 ghost use Rattle.std.specs.Prelude.{◌≡◌, ◌*◌, ◌≤◌, length};
-ghost use Rattle.rules.specs.Counting.{tabulate};
-ghost use Rattle.rules.specs.Bytes.{word_at, bytes_of};
-ghost use Rattle.rules.specs.Refusals.{step_bytes_refusal, lag_refusal};
-ghost use Rattle.rules.specs.Calls.{step_out, step_bytes_out, lag_answer};
+ghost use Rattle.rules.specs.Refusals.{step_bytes_refusal, lag_refusal, number_in};
+ghost use Rattle.rules.specs.Calls.{step_bytes_out, lag_answer};
+
+use params::Counter;
+use rules::Refusal;
 
 // Lengths in bytes, two to a word: "An odd number of bytes is a wrong length." (RULES 10.1)
 const BYTES: u8 = 2;
@@ -21,26 +22,43 @@ const FEW_WORDS: usize = 64;
 
 // A step that is not refused, of a rack whose table has TABLE words at most: clearing the largest buffer would cost a small
 // rack 7 % more.
-fn step_within<const TABLE: usize>(
-    n: u32,
-    f: u32,
-    c: u32,
-    card: u32,
-    records: &[u8],
-    out: &mut [u8],
-)
-    requires accepted { step_bytes_refusal n f c card (length records.now) (length out.old) ≡ 0 }
+fn step_within<const TABLE: usize>(counter: Counter, card: u32, records: &[u8], out: &mut [u8])
+    requires accepted { step_bytes_refusal counter.n counter.f counter.c card (length records.now) (length out.old) ≡ 0 }
     requires small { TABLE ≤ 400 }
     requires fits { length records.now ≤ 2 * TABLE }
-    ensures { out.new ≡ step_bytes_out n f c card records.now out.old }
+    ensures { out.new ≡ step_bytes_out counter.n counter.f counter.c card records.now out.old }
 {
     let mut heard = [0u16; TABLE];
     let heard = &mut heard[..records.len() / 2];
     let mut next = [0u16; MOST_WORDS];
     let next = &mut next[..out.len() / 2];
     wordbytes::decode(records, heard);
-    card::put_next(n, f, c, card, heard, next);
+    card::put_next(counter, card, heard, next);
     wordbytes::encode(next, out);
+}
+
+// One card's step, on bytes.
+fn step(counter: Counter, card: u32, records: &[u8], out: &mut [u8]) -> Result<(), Refusal>
+    ensures { (number_in result ≡ step_bytes_refusal counter.n counter.f counter.c card (length records.now) (length out.old))
+        × (out.new ≡ step_bytes_out counter.n counter.f counter.c card records.now out.old) }
+{
+    card::step_refusal(counter, card, BYTES, records.len(), out.len())?;
+    if records.len() <= 2 * FEW_WORDS {
+        step_within::<FEW_WORDS>(counter, card, records, out);
+    } else {
+        step_within::<MOST_TABLE>(counter, card, records, out);
+    }
+    Ok(())
+}
+
+// What C gets for an answer: the refusal's number, or 0.
+fn number_in(answer: Result<(), Refusal>) -> u32
+    ensures { result ≡ number_in answer }
+{
+    match answer {
+        Ok(()) => 0,
+        Err(refusal) => refusal.into(),
+    }
 }
 
 // One card's step: the card's next record, from the n records that it hears.
@@ -56,16 +74,7 @@ pub extern "C" fn tsendurkho_step(
     ensures { (result ≡ step_bytes_refusal n f c card (length records.now) (length out.old))
         × (out.new ≡ step_bytes_out n f c card records.now out.old) }
 {
-    let refusal = card::step_refusal(n, f, c, card, BYTES, records.len(), out.len());
-    if refusal != 0 {
-        return refusal;
-    }
-    if records.len() <= 2 * FEW_WORDS {
-        step_within::<FEW_WORDS>(n, f, c, card, records, out);
-    } else {
-        step_within::<MOST_TABLE>(n, f, c, card, records, out);
-    }
-    0
+    number_in(step(Counter { n, f, c }, card, records, out))
 }
 
 // The refusal of a lag.
@@ -73,7 +82,7 @@ pub extern "C" fn tsendurkho_step(
 pub extern "C" fn tsendurkho_lag_refusal(c: u32, x: u32, y: u32) -> u32
     ensures { result ≡ lag_refusal c x y }
 {
-    lag::lag_refusal(c, x, y)
+    number_in(lag::lag_refusal(c, x, y))
 }
 
 // The lag of x against y, 0 if it is refused.
