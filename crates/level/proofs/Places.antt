@@ -1,6 +1,5 @@
 -- Where a group's words stand: its columns and those of its halves' outputs lie within the table.
 use mathlib.Core.Path.{◌≡◌, ap, fun_ext}
-use mathlib.Core.List.{List}
 use Prim.Native.Nat.{ℕ, ◌+◌, ◌≤◌, ◌<◌}
 use native.Mathlib.Nat.{add_assoc}
 use native.Mathlib.Omega.{arith}
@@ -12,22 +11,22 @@ use Rattle.level.specs.declared.group.Group.{Group}
 use Rattle.columns.specs.Columns.{Within}
 use Rattle.level.specs.Groups.{Fits, Split, heard_by, column_of, half_group, outputs_of}
 
-pub split_place : {size : ℕ} {g : Group} → Split size g → (j : ℕ) → j ≤ 8 → g.base + j < g.w
+pub split_place : {g : Group} → Split g → (j : ℕ) → j ≤ 8 → g.base + j < g.w
 split_place {g = g} s j l = omega (arith, eight_words g.f s.some, s.fits.words)
 
 -- and its numbers are small
-pub split_narrow : {size : ℕ} {g : Group} → Split size g → g.base < 256
+pub split_narrow : {g : Group} → Split g → g.base < 256
 split_narrow s = omega (arith, split_place s 0 (omega arith), s.fits.narrow)
 
-pub split_cards : {size : ℕ} {g : Group} → Split size g → g.first + g.n < 256
+pub split_cards : {g : Group} → Split g → g.first + g.n < 256
 split_cards s = omega (arith, s.fits.rows, s.fits.small)
 
-pub column_within : {size : ℕ} {g : Group} → Split size g → (j : ℕ) → j ≤ 8 → Within size (column_of g j)
+pub column_within : {g : Group} → Split g → (j : ℕ) → j ≤ 8 → Within (column_of g j)
 column_within s j l =
     record { table = s.fits.table; rows = s.fits.rows; place = split_place s j l; few = omega (arith, s.fits.rows, s.fits.small) }
 
 -- a half of a group that fits, fits
-pub half_fits : {size : ℕ} {g : Group} → Split size g → (i : ℕ) → i < 2 → Fits size (half_group i g)
+pub half_fits : {g : Group} → Split g → (i : ℕ) → i < 2 → Fits (half_group i g)
 half_fits {g = g} s i l =
     let t = s.fits in
     let m = half_modulus_lem i g.f l in
@@ -43,7 +42,7 @@ half_fits {g = g} s i l =
       modulus = omega (arith, m.1, t.broken);
     }
 
-pub outputs_within : {size : ℕ} {g : Group} → Fits size g → Within size (outputs_of g)
+pub outputs_within : {g : Group} → Fits g → Within (outputs_of g)
 outputs_within {g = g} t =
     record {
       table = t.table;
@@ -53,22 +52,22 @@ outputs_within {g = g} t =
     }
 
 -- the first of a group's words
-pub base_within : {size : ℕ} {g : Group} → Fits size g → Within size (column_of g 0)
+pub base_within : {g : Group} → Fits g → Within (column_of g 0)
 base_within t =
     record { table = t.table; rows = t.rows; place = omega (arith, t.words); few = omega (arith, t.rows, t.small) }
 
 -- what is heard of a half is what the group hears of it
-pub half_heard : (recs : List ℕ) (g : Group) (i : ℕ) → heard_by recs (half_group i g) ≡ heard_in_half i g.n (heard_by recs g)
-half_heard recs g i =
+pub half_heard : (g : Group) (i : ℕ) → heard_by (half_group i g) ≡ heard_in_half i g.n (heard_by g)
+half_heard g i =
     fun_ext (λ u. fun_ext (λ j. rw (add_assoc g.first (half_first i g.n) u, add_assoc g.base 8 j)))
 
 -- so the most frequent output of a half is the group's m of it
-pub half_common : (recs : List ℕ) (g h : Group) (i : ℕ) → h ≡ half_group i g
-    → most_frequent h.c h.n (λ (u : ℕ). output_of h.f h.c (heard_by recs h u)) ≡ next_m i g.n g.f (heard_by recs g)
+pub half_common : (g h : Group) (i : ℕ) → h ≡ half_group i g
+    → most_frequent h.c h.n (λ (u : ℕ). output_of h.f h.c (heard_by h u)) ≡ next_m i g.n g.f (heard_by g)
 unfolding next_m
-half_common recs g h i e =
+half_common g h i e =
     rw e
     (ap
     (λ (hear : ℕ → ℕ → ℕ).
     most_frequent (half_modulus i g.f) (half_cards i g.n) (λ (u : ℕ). output_of (half_broken i g.f) (half_modulus i g.f) (hear u)))
-    (half_heard recs g i))
+    (half_heard g i))

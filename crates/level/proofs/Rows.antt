@@ -2,13 +2,15 @@
 use mathlib.Core.Path.{◌≡◌, refl}
 use Prim.Native.Nat.{ℕ, zero, suc, ◌≤◌}
 use native.Mathlib.Omega.{arith}
-use Rattle.rules.specs.Parameters.{turn, c0, c1, restart}
+use borrow.Author.Tests.{ne_eqb}
+use Rattle.rules.specs.Parameters.{turn, c0, c1, restart, most_broken}
+use Rattle.rules.specs.Groups.{half_modulus}
 use Rattle.rules.specs.Calls.{row_of}
 use Rattle.params.specs.Answers.{row_read}
 use Rattle.params.specs.declared.Row.{Row}
 use Rattle.level.specs.declared.group.Group.{Group}
 use Rattle.level.specs.Groups.{HalfAsks, LevelAsks}
-use Rattle.level.proofs.Places.{split_narrow}
+use Rattle.level.proofs.Places.{split_narrow, split_cards}
 
 pub record RowOf (f : ℕ) (row : Row) : Type 0 where
   pub t : row.turn ≡ turn f
@@ -21,12 +23,20 @@ unfolding row_of
 row_is zero row l e = absurd (omega arith)
 row_is (suc f) row l e = rw e (record { t = refl; m0 = refl; m1 = refl; again = refl })
 
+pub row_asked : {g : Group} {card : ℕ} {row : Row} → LevelAsks g card row → RowOf g.f row
+row_asked {g = g} {row = row} a = row_is g.f row a.split.some a.row_is
+
 -- so each half can be made with its modulus of the row
-pub halves_asked : {size : ℕ} {g : Group} {card : ℕ} {row : Row} → LevelAsks size g card row
+pub halves_asked : {g : Group} {card : ℕ} {row : Row} → LevelAsks g card row
     → (HalfAsks 0 g row.c0) × (HalfAsks 1 g row.c1)
-halves_asked {g = g} {row = row} a =
+halves_asked a =
     let some = a.split.some in
-    let r = row_is g.f row some a.row_is in (
-      record { some = some; narrow = split_narrow a.split; modulus = r.m0 },
-      record { some = some; narrow = split_narrow a.split; modulus = r.m1 },
+    let r = row_asked a in (
+      record { some = some; narrow = split_narrow a.split; cards = omega arith; modulus = r.m0 },
+      record { some = some; narrow = split_narrow a.split; cards = split_cards a.split; modulus = r.m1 },
     )
+
+-- a tally has room for it
+pub modulus_small : (i f : ℕ) → f ≤ most_broken → half_modulus i f ≤ 128
+modulus_small zero f l = omega arith
+modulus_small (suc i) f l = rw (ne_eqb (suc i) 0 (omega arith)) (omega arith)

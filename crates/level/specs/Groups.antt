@@ -1,24 +1,25 @@
 -- A group's place in a table of records, and what is heard there.
-use Rattle.std.specs.Prelude.{◌≡◌, List, ℕ, ◌+◌, ◌*◌, ◌≤◌, ◌<◌}
+use Rattle.std.specs.Prelude.{◌≡◌, ℕ, length, ◌+◌, ◌*◌, ◌≤◌, ◌<◌}
 use Rattle.rules.specs.Parameters.{most_broken, most_modulus, record_words}
-use Rattle.rules.specs.Groups.{heard_from, heard_in, half_cards, half_first, half_broken, half_modulus, output_place}
+use Rattle.rules.specs.Groups.{at_half, heard_from, heard_in, half_cards, half_first, half_broken, half_modulus, output_place}
 use Rattle.params.specs.declared.Row.{Row}
 use Rattle.params.specs.Answers.{row_read}
 use Rattle.columns.specs.declared.Column.{Column}
 use Rattle.level.specs.declared.group.Group.{Group}
 
 -- what is heard from the group's cards
-abbrev pub heard_by : List ℕ → Group → ℕ → ℕ → ℕ
-heard_by recs g = heard_from (heard_in g.w recs) g.first g.base
+abbrev pub heard_by : Group → ℕ → ℕ → ℕ
+heard_by g = heard_from (heard_in g.w g.recs.now) g.first g.base
 
 -- the word j of the group's cards
 abbrev pub column_of : Group → ℕ → Column
-column_of g j = record { cards = g.cards; w = g.w; first = g.first; n = g.n; at = g.base + j }
+column_of g j = record { recs = g.recs; cards = g.cards; w = g.w; first = g.first; n = g.n; at = g.base + j }
 
 -- half i of a group
 abbrev pub half_group : ℕ → Group → Group
 half_group i g =
     record {
+      recs = g.recs;
       cards = g.cards;
       w = g.w;
       first = g.first + half_first i g.n;
@@ -32,9 +33,9 @@ half_group i g =
 abbrev pub outputs_of : Group → Column
 outputs_of g = column_of g (output_place g.f)
 
--- the group lies within a table of that many words, and its f is allowed
-pub record Fits (size : ℕ) (g : Group) : Type 0 where
-  pub table : g.cards * g.w ≤ size
+-- the group lies within its table, and its f is allowed
+pub record Fits (g : Group) : Type 0 where
+  pub table : g.cards * g.w ≤ length g.recs.now
   pub rows : g.first + g.n ≤ g.cards
   pub words : g.base + record_words g.f ≤ g.w
   pub few : 3 * g.f < g.n
@@ -45,30 +46,31 @@ pub record Fits (size : ℕ) (g : Group) : Type 0 where
   pub modulus : g.c ≤ most_modulus
 
 -- and it is split
-pub record Split (size : ℕ) (g : Group) : Type 0 where
-  pub fits : Fits size g
+pub record Split (g : Group) : Type 0 where
+  pub fits : Fits g
   pub some : 1 ≤ g.f
 
--- what is required to make half i of a group with the modulus m
+-- what is required to make half i of a group with the modulus m; the second half's first card is counted from the group's
 pub record HalfAsks (i : ℕ) (g : Group) (m : ℕ) : Type 0 where
   pub some : 1 ≤ g.f
   pub narrow : g.base < 256
+  pub cards : at_half i 0 (g.first + g.n) < 256
   pub modulus : m ≡ half_modulus i g.f
 
 -- what is required to read a card's word j of a split group
-pub record WordAsks (size : ℕ) (g : Group) (card j : ℕ) : Type 0 where
-  pub split : Split size g
+pub record WordAsks (g : Group) (card j : ℕ) : Type 0 where
+  pub split : Split g
   pub member : card < g.n
   pub place : j < 8
 
 -- what is required to read or compute a card's level: a card of a split group, and the row of the table for its f
-pub record LevelAsks (size : ℕ) (g : Group) (card : ℕ) (row : Row) : Type 0 where
-  pub split : Split size g
+pub record LevelAsks (g : Group) (card : ℕ) (row : Row) : Type 0 where
+  pub split : Split g
   pub member : card < g.n
   pub row_is : row ≡ row_read g.f
 
 -- what `next_vote` requires: a half of a split group, and its modulus
-pub record NextVoteAsks (size : ℕ) (g : Group) (half m : ℕ) : Type 0 where
-  pub split : Split size g
+pub record NextVoteAsks (g : Group) (half m : ℕ) : Type 0 where
+  pub split : Split g
   pub a_half : half < 2
   pub modulus : m ≡ half_modulus half g.f

@@ -1,7 +1,7 @@
 -- The level's struct, by the rules: as read from its words, after a vote, after the beat, as words.
 use Rattle.std.specs.Prelude.{List, [], ◌∷◌, ℕ}
 use Rattle.rules.specs.declared.Vote.{Vote}
-use Rattle.rules.specs.Groups.{m_place, kept_vote, kept_wait, kept_b, output_of, word_of, bit_of}
+use Rattle.rules.specs.Groups.{at_half, m_place, kept_vote, kept_wait, kept_b, output_of, word_of, bit_of}
 use Rattle.rules.specs.OneBeat.{cooldown, next_m, next_vote, next_wait, next_standing}
 use Rattle.level.specs.declared.Level.{Level}
 
@@ -18,29 +18,16 @@ level_read f c words =
       b = kept_b words;
     }
 
--- the level with M0 and w0 changed, and with M1 and w1 changed
-abbrev pub voted_zero : Level → Vote → ℕ → ℕ → Level
-voted_zero l new m again =
+-- the level with Mi and wi changed
+abbrev pub voted : ℕ → Level → Vote → ℕ → ℕ → Level
+voted i l new m again =
     record {
       m0 = l.m0;
       m1 = l.m1;
-      vote0 = new;
-      vote1 = l.vote1;
-      wait0 = cooldown m again l.vote0 new l.wait0;
-      wait1 = l.wait1;
-      a = l.a;
-      b = l.b;
-    }
-
-abbrev pub voted_one : Level → Vote → ℕ → ℕ → Level
-voted_one l new m again =
-    record {
-      m0 = l.m0;
-      m1 = l.m1;
-      vote0 = l.vote0;
-      vote1 = new;
-      wait0 = l.wait0;
-      wait1 = cooldown m again l.vote1 new l.wait1;
+      vote0 = at_half i new l.vote0;
+      vote1 = at_half i l.vote1 new;
+      wait0 = at_half i (cooldown m again l.vote0 new l.wait0) l.wait0;
+      wait1 = at_half i l.wait1 (cooldown m again l.vote1 new l.wait1);
       a = l.a;
       b = l.b;
     }

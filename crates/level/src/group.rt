@@ -6,7 +6,8 @@ use columns::Column;
 
 // A group of n cards in a table of `cards` records of w words: the cards from `first` on, and their words from `base` on.
 #[derive(Clone, Copy)]
-pub struct Group {
+pub struct Group<'a> {
+    pub recs: &'a [u16],
     pub cards: usize,
     pub w: usize,
     pub first: usize,
@@ -16,49 +17,41 @@ pub struct Group {
     pub c: u32,
 }
 
-// The word j of the group's cards.
-pub fn column(g: Group, j: usize) -> Column
-    requires { g.base + j < g.w }
-    ensures { result ≡ column_of g j }
-{
-    Column {
-        cards: g.cards,
-        w: g.w,
-        first: g.first,
-        n: g.n,
-        at: g.base + j,
+impl<'a> Group<'a> {
+    // The word j of the group's cards.
+    pub fn column(self, j: usize) -> Column<'a>
+        requires { self.base + j < self.w }
+        ensures { result ≡ column_of self.entry j }
+    {
+        Column {
+            recs: self.recs,
+            cards: self.cards,
+            w: self.w,
+            first: self.first,
+            n: self.n,
+            at: self.base + j,
+        }
     }
-}
 
-// RULES 3, half 0: "the first n/2" cards, "f0 = (f-1)/2", and the modulus c0.
-pub fn half_zero(g: Group, c0: u16) -> Group
-    requires { HalfAsks 0 g c0 }
-    ensures { result ≡ half_group 0 g }
-{
-    Group {
-        cards: g.cards,
-        w: g.w,
-        first: g.first,
-        base: g.base + 8,
-        n: g.n / 2,
-        f: (g.f - 1) / 2,
-        c: c0 as u32,
-    }
-}
-
-// RULES 3, half 1: "the rest", "f1 = (f-1)/2, rounded up", and the modulus c1.
-pub fn half_one(g: Group, c1: u16) -> Group
-    requires { (HalfAsks 1 g c1) × (g.first + g.n < 256) }
-    ensures { result ≡ half_group 1 g }
-{
-    Group {
-        cards: g.cards,
-        w: g.w,
-        first: g.first + g.n / 2,
-        base: g.base + 8,
-        n: g.n - g.n / 2,
-        f: g.f / 2,
-        c: c1 as u32,
+    // RULES 3. Half 0: "the first n/2" cards, "f0 = (f-1)/2", and the modulus c0; half 1: "the rest", "f1 = (f-1)/2, rounded up", and c1.
+    pub fn half<const I: usize>(self, modulus: u16) -> Group<'a>
+        requires { HalfAsks I self modulus }
+        ensures { result ≡ half_group I self.entry }
+    {
+        let before = self.n / 2;
+        let (first, n, f) = if I == 0 {
+            (self.first, before, (self.f - 1) / 2)
+        } else {
+            (self.first + before, self.n - before, self.f / 2)
+        };
+        Group {
+            first,
+            base: self.base + 8,
+            n,
+            f,
+            c: modulus as u32,
+            ..self
+        }
     }
 }
 
