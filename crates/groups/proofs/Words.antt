@@ -47,14 +47,14 @@ node_is n (suc f) c hear card base out now last l some el eo half (suc k) h =
     ∙ rw (eo, el) (sym (sets_eight out base (level_after n (suc f) c hear card) (own_half k n (suc f) hear card)))
 
 -- half i of a group: its f is less by more than half, it fits where the group does, and its words lie within the group's
-pub record Smaller (size : ℕ) (g h : Group) (i : ℕ) : Type 0 where
+pub record Smaller (g h : Group) (i : ℕ) : Type 0 where
   pub falls : h.f + h.f + 1 < g.f + g.f
-  pub fits : Fits size h
+  pub fits : Fits h
   pub words : h.base + record_words h.f ≤ g.base + record_words g.f
   pub cards : h.n ≡ half_cards i g.n
   pub broken : h.f ≡ half_broken i g.f
 
-pub half_smaller : {size : ℕ} {g h : Group} (i : ℕ) → Split size g → i < 2 → h ≡ half_group i g → Smaller size g h i
+pub half_smaller : {g h : Group} (i : ℕ) → Split g → i < 2 → h ≡ half_group i g → Smaller g h i
 half_smaller {g = g} i s l e =
     rw e
     (record {
@@ -66,11 +66,11 @@ half_smaller {g = g} i s l e =
     })
 
 -- what a half writes as a group is what its group's card has of it
-pub half_is : {size : ℕ} {g h : Group} (recs : List ℕ) (i card own : ℕ) (out last : List ℕ) → Split size g → i < 2
+pub half_is : {g h : Group} (i card own : ℕ) (out last : List ℕ) → Split g → i < 2
     → h ≡ half_group i g → half_of g.n card ≡ i → own ≡ card - half_first i g.n
-    → WritesGroup recs h own out last → WritesHalf recs g card out last
-half_is {g = g} recs i card own out last s l eh ei eo written k m =
+    → WritesGroup h own out last → WritesHalf g card out last
+half_is {g = g} i card own out last s l eh ei eo written k m =
     let half = group_next k (half_cards i g.n) (half_broken i g.f) (half_modulus i g.f) in
     written k (omega (arith, (half_smaller i s l eh).falls))
     ∙ rw (eh, ei, eo)
-    (ap (λ (hear : ℕ → ℕ → ℕ). sets out (g.base + 8) (half hear (card - half_first i g.n))) (half_heard recs g i))
+    (ap (λ (hear : ℕ → ℕ → ℕ). sets out (g.base + 8) (half hear (card - half_first i g.n))) (half_heard g i))

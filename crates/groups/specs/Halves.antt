@@ -6,10 +6,10 @@ use Rattle.level.specs.declared.group.Group.{Group}
 use Rattle.level.specs.Groups.{heard_by}
 
 -- the next words of half i of a group, for a card of the group
-abbrev pub half_words : ℕ → ℕ → List ℕ → Group → ℕ → List ℕ
-half_words i k recs g card =
+abbrev pub half_words : ℕ → ℕ → Group → ℕ → List ℕ
+half_words i k g card =
     group_next k (half_cards i g.n) (half_broken i g.f) (half_modulus i g.f)
-    (heard_in_half i g.n (heard_by recs g)) (card - half_first i g.n)
+    (heard_in_half i g.n (heard_by g)) (card - half_first i g.n)
 
-abbrev pub half_next : ℕ → List ℕ → Group → ℕ → List ℕ
-half_next k recs g card = half_words (half_of g.n card) k recs g card
+abbrev pub half_next : ℕ → Group → ℕ → List ℕ
+half_next k g card = half_words (half_of g.n card) k g card
