@@ -160,20 +160,17 @@ pub fn next_level(g: Group, card: usize, row: Row) -> Level
     }
 }
 
-// The level's eight words, written from `base` on.
+// The level's eight words, written from `base` on. One by one: copied from an array they cost the step instructions.
 pub fn put_level(out: &mut [u16], base: usize, l: Level)
     requires { base + 8 ≤ length out.old }
     ensures { out.new ≡ sets out.old base (words_of l) }
 {
-    let words = [
-        l.m0,
-        l.m1,
-        u16::from(l.vote0),
-        u16::from(l.vote1),
-        l.wait0,
-        l.wait1,
-        u16::from(l.a),
-        u16::from(l.b),
-    ];
-    out[base..base + 8].copy_from_slice(&words);
+    out[base] = l.m0;
+    out[base + 1] = l.m1;
+    out[base + 2] = u16::from(l.vote0);
+    out[base + 3] = u16::from(l.vote1);
+    out[base + 4] = l.wait0;
+    out[base + 5] = l.wait1;
+    out[base + 6] = u16::from(l.a);
+    out[base + 7] = u16::from(l.b);
 }
