@@ -6,16 +6,9 @@ use Prim.Native.Nat.{ℕ, ◌*◌}
 use native.Mathlib.Omega.{arith}
 use borrow.Author.Tests.{not-false}
 use Rattle.rules.specs.Parameters.{record_words, bad_cards, bad_broken}
-use Rattle.rules.specs.Refusals.{given, wrong, write_refusal, read_refusal}
+use Rattle.rules.specs.Refusals.{wrong, write_refusal, read_refusal}
 use Rattle.rules.specs.Text.{well_formed}
 use Rattle.rules.proofs.Shapes.{not_given, right}
-
--- refusals 5 and 6 of writing, 6 and 10 of reading
-abbrev pub write_rest : ℕ → ℕ → ℕ → ℕ
-write_rest size words out = given 5 (wrong words size) (given 6 (wrong out (4 * size)) 0)
-
-abbrev pub read_rest : ℕ → List ℕ → ℕ → ℕ
-read_rest size text out = given 6 (wrong out size) (given 10 (not (well_formed (4 * size) text)) 0)
 
 pub write_accepted : (n f words out : ℕ) → write_refusal n f words out ≡ 0 → (words ≡ record_words f) × (out ≡ 4 * record_words f)
 write_accepted n f words out e =

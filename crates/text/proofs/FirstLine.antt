@@ -5,22 +5,18 @@ use mathlib.Core.Bool.{Bool, true, false}
 use mathlib.Core.List.{List, [], ◌∷◌}
 use Prim.Native.Nat.{ℕ, suc, ◌+◌, ◌-◌, ◌≤◌, ◌<◌}
 use native.Mathlib.Nat.{add-zero}
-use native.Mathlib.Numerals.{add-one}
 use native.Mathlib.Omega.{arith}
 use borrow.Author.Tests.{le-leb, lt-leb, ltb-false}
 use lib.Dec.{eqb, leb, ltb}
-use Rattle.std.specs.Prelude.{Option, Some, None, position}
+use Rattle.std.specs.Prelude.{position}
+use Rattle.std.specs.Option.{unwrap_or}
 use Rattle.std.specs.List.{position_or_len}
 use Rattle.std.proofs.lemmas.List.Recursion.{is_position_or_len}
-use lib.ListN.{length, get_or, take, drop, length-drop, drop_of_length-le}
-use lib.Seq.{drop-cons, drop-drop, get_or-drop, length-take-le}
+use lib.ListN.{length, get_or, take, drop, length-drop}
+use lib.Seq.{drop-drop, get_or-drop, length-take-le}
 use Rattle.rules.specs.Text.{line_feed, one_more, in_front, lines_of, has_line, line_at, span_of, start_of}
 use Rattle.rules.proofs.Tests.{decided}
 use Rattle.text.specs.Lines.{line_length, end_from, Stands}
-
-pub line_ended : (text : List ℕ) (i : ℕ) → length text ≤ i → line_length (drop i text) ≡ 0
-unfolding line_length
-line_ended text i l = rw (drop_of_length-le text {i = i} l)
 
 length_fits : (t : List ℕ) → line_length t ≤ length t
 unfolding line_length
@@ -40,21 +36,12 @@ length_is t =
     is_position_or_len line_length is_feed refl
     (λ ch rest. let e : suc (line_length rest) ≡ 1 + line_length rest = omega arith in rw e) t
 
-pub feed_at : (t : List ℕ) (n : ℕ) → Some n ≡ position is_feed t → n ≡ line_length t
-feed_at t n e =
-    let p = position_or_len is_feed t in
-    let same = length_is t in
-    ⊎_elim
-    (λ (b : ltb p (length t) ≡ true). let q : Some n ≡ Some p = rw b at e in cc)
-    (λ (b : ltb p (length t) ≡ false). let q : Some n ≡ None = rw b at e in absurd cc)
-    (decided (ltb p (length t)))
-
-pub no_feed : (t : List ℕ) → None ≡ position is_feed t → length t ≡ line_length t
-no_feed t e =
+pub feed_at : (t : List ℕ) → unwrap_or (position is_feed t) (length t) ≡ line_length t
+feed_at t =
     let p = position_or_len is_feed t in
     ⊎_elim
-    (λ (b : ltb p (length t) ≡ true). let q : ◌≡◌ {A = Option ℕ} None (Some p) = rw b at e in absurd cc)
-    (λ (b : ltb p (length t) ≡ false). omega (arith, ltb-false p (length t) b, length_is t, length_fits t))
+    (λ b. rw b (sym (length_is t)))
+    (λ b. rw b (omega (arith, ltb-false p (length t) b, length_is t, length_fits t)))
     (decided (ltb p (length t)))
 
 pub end_within : (text : List ℕ) (start : ℕ) → start ≤ length text → end_from text start ≤ length text

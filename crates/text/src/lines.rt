@@ -11,13 +11,9 @@ const LINE_FEED: u8 = 10;
 pub fn line_end(text: &[u8], start: usize) -> usize
     ensures { result ≡ end_from text.now start }
 {
-    let Some(rest) = text.get(start..) else {
-        return start;
-    };
-    match rest.iter().position(|&ch| ch == LINE_FEED) {
-        Some(length) => start + length,
-        None => text.len(),
-    }
+    let rest = text.get(start..).unwrap_or(&[]);
+    let feed = rest.iter().position(|&ch| ch == LINE_FEED);
+    start + feed.unwrap_or(rest.len())
 }
 
 // Line k, in one pass. "What follows the last line feed is a line only if it has a character." (RULES 10.3)

@@ -16,7 +16,9 @@ unfolding well_formed
 returns-then-text-size c =
     let text = c.args.text.now in
     rw (eq-eqb _ _ c.if-text-size.true)
-    (all_from_yields_List is_digit _ _ _ c.all.ensures.ran (YieldsList-from_slice text cc) (λ x b q k. search (rules, tests)) ∙ all_is text)
+    (all_from_yields_List is_digit _ _ _ c.all.ensures.ran (YieldsList-from_slice text cc)
+    (λ x b q k. (search rules, search (rules, tests)))
+    ∙ all_is text)
 
 pub returns-else-text-size : goal.returns-else-text-size
 unfolding well_formed

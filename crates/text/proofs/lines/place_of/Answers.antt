@@ -1,4 +1,4 @@
-use Rattle.std.proofs.Common.{◌≡◌, List, [], ◌+◌, ◌-◌, drop, sym, ◌∙◌, arith}
+use Rattle.std.proofs.Common.{◌≡◌, [], ◌+◌, ◌-◌, drop, sym, ◌∙◌, arith}
 use lib.ListN.{drop_of_length-le}
 use lib.Seq.{drop-nil}
 use Rattle.rules.specs.Text.{lines_of}
@@ -11,7 +11,7 @@ unfolding lines_of
 returns-then-text-start c =
     let a = c.args in
     let none : drop (a.k - 1) (lines_of a.text.now) ≡ [] =
-    sym c.loop-number.invariant.left ∙ rw (drop_of_length-le a.text.now {i = c.loop-number.start} c.if-text-start.true)
+    sym c.loop-number.invariant.left ∙ rw (drop_of_length-le a.text.now {i = c.loop-number.start} (omega arith))
     (drop-nil (a.k - c.loop-number.number)) in
     no_line a.k a.text.now (omega arith) none
 
