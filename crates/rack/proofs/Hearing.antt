@@ -19,7 +19,7 @@ use Rattle.rack.proofs.Tables.{written, other_record}
 module _ (r : Rack) (held sent : List ℕ) (v : ℕ) where
   -- where the words of a broken card stand among those sent
   abbrev row : ℕ → ℕ
-  row u = place (broken_below r.set r.n) v (broken_below r.set u)
+  row u = place (broken_below r.set r.counter.n) v (broken_below r.set u)
 
   -- a broken card is heard as it sends to v
   abbrev AsSent : List ℕ → ℕ → ℕ → Type 0
@@ -48,8 +48,8 @@ module _ (r : Rack) (held sent : List ℕ) (v : ℕ) where
       below_more (AsSent heard j) u (λ i h b. broken i j h b m) (λ b. absurd (never (sym b ∙ e))) i l b
 
   -- and so all cards are heard as the rules have it
-  pub all_heard : (heard : List ℕ) → SoundAsHeld r held heard → BrokenAsSent r sent v r.n heard
-      → (u j : ℕ) → u < r.n → j < size r → heard_in (size r) heard u j ≡ heard_on_beat r.n r.f r.set held sent v u j
+  pub all_heard : (heard : List ℕ) → SoundAsHeld r held heard → BrokenAsSent r sent v r.counter.n heard
+      → (u j : ℕ) → u < r.counter.n → j < size r → heard_in (size r) heard u j ≡ heard_on_beat r.counter.n r.counter.f r.set held sent v u j
   unfolding heard_on_beat
   all_heard heard sound broken u j l m = ⊎_elim
       (λ (e : is_broken r.set u ≡ true). rw e (broken u j l e m))

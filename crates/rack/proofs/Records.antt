@@ -20,11 +20,11 @@ broken_record r held sent v e = rw e
 
 -- a sound card's step writes its record
 pub sound_record : (r : Rack) (held sent : List ℕ) (out v : ℕ) (heard before : List ℕ)
-    → Accepted r (length held) (length sent) out → v < r.n → is_broken r.set v ≡ false
-    → length heard ≡ r.n * size r → length before ≡ size r → SoundAsHeld r held heard → BrokenAsSent r sent v r.n heard
-    → step_out r.n r.f r.c v heard before ≡ record_of r held sent v
+    → Accepted r (length held) (length sent) out → v < r.counter.n → is_broken r.set v ≡ false
+    → length heard ≡ r.counter.n * size r → length before ≡ size r → SoundAsHeld r held heard → BrokenAsSent r sent v r.counter.n heard
+    → step_out r.counter.n r.counter.f r.counter.c v heard before ≡ record_of r held sent v
 unfolding step_out record_after
 sound_record r held sent out v heard before a l e eh eb sound broken =
     let g = accepted r _ _ _ a in
     rw (step_passes r _ _ _ v (length heard) (length before) a l eh eb, e)
-    (same_record r.n r.f r.c _ _ v g.shape.few l (all_heard r held sent v heard sound broken))
+    (same_record r.counter.n r.counter.f r.counter.c _ _ v g.shape.few l (all_heard r held sent v heard sound broken))

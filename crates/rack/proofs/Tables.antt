@@ -8,24 +8,11 @@ use native.Mathlib.Omega.{arith}
 use borrow.Rule.Slice.PartMut.{put_mid, Post-is}
 use lib.Arith.{digits_div}
 use lib.ListN.{length, get_or, set, take, drop, length-append, length-drop}
-use lib.Seq.{sets, sets-eq, length-sets, take_at, length-take-le, get_or-set_other, ext_get_or}
+use lib.Seq.{sets, sets-eq, take_at, length-take-le, get_or-set_other, get_or-take, get_or-drop, ext_get_or}
 use Rattle.rules.specs.Counting.{rows}
 use Rattle.rules.specs.Groups.{heard_in}
 use Rattle.rules.proofs.Lists.{tabulate_at, tabulate_length, before_seam, behind_seam}
 use Rattle.rack.specs.Racks.{words_from}
-
--- one word more is written
-sets_more : (words to : List ℕ) (place at word : ℕ) → place + length words ≡ at
-    → set (sets to place words) at word ≡ sets to place (words ++ (word ∷ []))
-sets_more [] to place at word e = let p : place ≡ at = omega arith in rw p
-sets_more (first ∷ words) to place at word e = sets_more words (set to place first) (suc place) at word (omega arith)
-
-pub copied_more : (from to : List ℕ) (at place j : ℕ)
-    → set (sets to place (words_from from at j)) (place + j) (get_or from (at + j) 0) ≡ sets to place (words_from from at (j + 1))
-unfolding rows
-copied_more from to at place j =
-    let long = tabulate_length j (λ (i : ℕ). get_or from (at + i) 0) in
-    rw add-one (sets_more (words_from from at j) to place (place + j) (get_or from (at + j) 0) (omega (arith, long)))
 
 -- a record's part of the table, `&mut table[at..at + w]`; and the table where a record was written there
 abbrev pub part : List ℕ → ℕ → ℕ → List ℕ
@@ -39,6 +26,21 @@ pub part_back : (words table : List ℕ) (at w : ℕ) → length words ≡ w →
 part_back words table at w e h =
     rw (Post-is at (at + w) table (omega arith))
     (sym (sets-eq words table at (omega arith) ∙ rw e (append_assoc (take at table) words (drop (at + w) table))))
+
+-- what is copied is that part of the list
+pub part_is : (from : List ℕ) (at count : ℕ) → at + count ≤ length from → part from at count ≡ words_from from at count
+part_is from at count h =
+    let long = part_length from at count h in
+    ext_get_or 0 _ _ (long ∙ sym (tabulate_length count _))
+    (λ i l.
+    let here : i < count = omega arith in
+    get_or-take (at + count - at) (drop at from) i 0 (omega arith) ∙ get_or-drop at from i 0 ∙ sym (tabulate_at count _ i here))
+
+-- so copying words of one list to a place of another leaves them there
+pub copied : (from to words : List ℕ) (at place count : ℕ) → at + count ≤ length from → place + count ≤ length to
+    → words ≡ part from at count → put_mid place (place + count - place) to words ≡ sets to place (words_from from at count)
+copied from to words at place count hf ht e =
+    part_back words to place count (ap length e ∙ part_length from at count hf) ht ∙ ap (sets to place) (e ∙ part_is from at count hf)
 
 -- what is written is there
 pub written : (words table : List ℕ) (at j : ℕ) → at + length words ≤ length table → j < length words
@@ -73,16 +75,6 @@ next_record_lem table w v row e fits done =
     rw (add-one v, sets-eq (row v) table (v * w) (omega arith), done)
     (take_at (rows v row ++ row v) (drop (v * w + length (row v)) table) (suc v * w)
     (omega (arith, length-append (rows v row) (row v), ap length done, length-take-le (v * w) table (omega arith))))
-
--- a whole table is copied
-pub copied_whole : (from to : List ℕ) → length to ≡ length from → sets to 0 (words_from from 0 (length from)) ≡ from
-copied_whole from to e =
-    let words = words_from from 0 (length from) in
-    let long : length words ≡ length from = tabulate_length (length from) _ in
-    ext_get_or 0 _ from (length-sets to 0 words ∙ e)
-    (λ i l.
-    let here : i < length from = omega (arith, length-sets to 0 words) in
-    rw (zero-add i) at (written words to 0 i (omega arith) (omega arith) ∙ tabulate_at (length from) _ i here))
 
 -- the words that a list begins with
 pub words_first : (words rest : List ℕ) (count : ℕ) → length words ≡ count → words_from (words ++ rest) 0 count ≡ words

@@ -30,8 +30,5 @@ pub fn set_refused(n: u32, f: u32, set: u32) -> bool
     requires { n ≤ most_cards }
     ensures { result ≡ bad_set n f set }
 {
-    if set >> n != 0 {
-        return true;
-    }
-    f < broken_below(set, n)
+    set >> n != 0 || f < broken_below(set, n)
 }
