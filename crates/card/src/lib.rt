@@ -46,6 +46,7 @@ pub fn put_next(counter: Counter, card: u32, records: &[u16], out: &mut [u16])
     ensures { out.new ≡ step_out counter.n counter.f counter.c card records.now out.old }
 {
     let whole = Group {
+        recs: records,
         cards: counter.n as usize,
         w: params::record_words(counter.f) as usize,
         first: 0,
@@ -54,7 +55,7 @@ pub fn put_next(counter: Counter, card: u32, records: &[u16], out: &mut [u16])
         f: counter.f,
         c: counter.c,
     };
-    groups::step_group(records, whole, card as usize, out);
+    groups::step_group(whole, card as usize, out);
 }
 
 // One card's step.

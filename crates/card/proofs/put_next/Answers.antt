@@ -11,7 +11,7 @@ step_group-requires c =
     let k = c.args.counter in
     let g = step_accepted k.n k.f k.c c.args.card _ _ c.requires.0 in
     record {
-      fits = whole_fits k.n k.f k.c c.args.card _ _ c.record_words.result g c.record_words.ensures;
+      fits = whole_fits c.args.records k.n k.f k.c c.args.card _ c.record_words.result g c.record_words.ensures;
       member = g.card_below;
       words = omega (arith, g.out_whole);
     }
@@ -24,5 +24,5 @@ returns c =
     let w = c.record_words in
     let g = step_accepted k.n k.f k.c a.card _ _ c.requires.0 in
     rw c.requires.0
-    (record_is k.n k.f k.c a.card w.result a.records.now a.out.now _
+    (record_is a.records k.n k.f k.c a.card w.result a.out.now _
     w.ensures (c.requires.1 ∙ rw (g.out_whole, w.ensures)) (c.step_group.ensures (suc k.f) (omega arith)))
