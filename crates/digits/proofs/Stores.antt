@@ -1,12 +1,12 @@
 -- Laws of storing lists one after the other.
 use mathlib.Core.Path.{◌≡◌, sym, ◌∙◌}
-use mathlib.Core.List.{List, [], ◌∷◌, ◌++◌, append-nil, append_assoc}
+use mathlib.Core.List.{List, [], ◌∷◌, ◌++◌, append_assoc}
 use Prim.Native.Nat.{ℕ, suc, ◌+◌, ◌*◌, ◌≤◌}
 use native.Mathlib.Nat.{add-zero}
 use native.Mathlib.Numerals.{add-one}
 use native.Mathlib.Omega.{arith}
 use borrow.Rule.Slice.PartMut.{put_mid}
-use lib.ListN.{length, set, take, drop, drop_of_length-le}
+use lib.ListN.{length, set, take, drop}
 use lib.Seq.{sets, sets-eq, drop-drop}
 use Rattle.rules.specs.Counting.{rows}
 use Rattle.rules.proofs.Lists.{rows_length}
@@ -17,10 +17,6 @@ sets_append [] q l i = rw (add-zero i)
 sets_append (a ∷ p) q l i =
     let e : suc i + length p ≡ i + suc (length p) = omega arith in
     sets_append p q (set l i a) (suc i) ∙ rw e
-
--- all of a list is overwritten
-pub sets_all : (l p : List ℕ) → length l ≡ length p → sets l 0 p ≡ p
-sets_all l p e = sets-eq p l 0 (omega arith) ∙ rw (drop_of_length-le l {i = 0 + length p} (omega arith)) (append-nil p)
 
 -- a part of n that was written, as `&mut l[a..b]` is given back
 pub part_back : (p l : List ℕ) (a n : ℕ) → length p ≡ n → a + n ≤ length l → put_mid a n l p ≡ sets l a p

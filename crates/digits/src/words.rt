@@ -1,5 +1,4 @@
-// Words, one after the other. "A word is 4 digits." (RULES 10.2) Parts are cut by places: over chunks that are zipped with the words
-// the proofs do not close, since what the loop writes is not known after it.
+// Words, one after the other. "A word is 4 digits." (RULES 10.2) By places: over chunks zipped with words the proofs do not close.
 ghost use Rattle.std.specs.Prelude.{◌≡◌, true, ◌*◌, length};
 ghost use Rattle.rules.specs.Text.{hex_of, text_of, well_formed, words_at};
 
