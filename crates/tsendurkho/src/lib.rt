@@ -37,30 +37,6 @@ fn step_within<const TABLE: usize>(counter: Counter, card: u32, records: &[u8], 
     wordbytes::encode(next, out);
 }
 
-// One card's step, on bytes.
-fn step(counter: Counter, card: u32, records: &[u8], out: &mut [u8]) -> Result<(), Refusal>
-    ensures { (number_in result ≡ step_bytes_refusal counter.n counter.f counter.c card (length records.now) (length out.old))
-        × (out.new ≡ step_bytes_out counter.n counter.f counter.c card records.now out.old) }
-{
-    card::step_refusal(counter, card, BYTES, records.len(), out.len())?;
-    if records.len() <= 2 * FEW_WORDS {
-        step_within::<FEW_WORDS>(counter, card, records, out);
-    } else {
-        step_within::<MOST_TABLE>(counter, card, records, out);
-    }
-    Ok(())
-}
-
-// What C gets for an answer: the refusal's number, or 0.
-fn number_in(answer: Result<(), Refusal>) -> u32
-    ensures { result ≡ number_in answer }
-{
-    match answer {
-        Ok(()) => 0,
-        Err(refusal) => refusal.into(),
-    }
-}
-
 // One card's step: the card's next record, from the n records that it hears.
 #[unsafe(no_mangle)]
 pub extern "C" fn tsendurkho_step(
@@ -74,7 +50,16 @@ pub extern "C" fn tsendurkho_step(
     ensures { (result ≡ step_bytes_refusal n f c card (length records.now) (length out.old))
         × (out.new ≡ step_bytes_out n f c card records.now out.old) }
 {
-    number_in(step(Counter { n, f, c }, card, records, out))
+    let counter = Counter { n, f, c };
+    if let Err(refusal) = card::step_refusal(counter, card, BYTES, records.len(), out.len()) {
+        return refusal.into();
+    }
+    if records.len() <= 2 * FEW_WORDS {
+        step_within::<FEW_WORDS>(counter, card, records, out);
+    } else {
+        step_within::<MOST_TABLE>(counter, card, records, out);
+    }
+    0
 }
 
 // The refusal of a lag.
@@ -82,7 +67,10 @@ pub extern "C" fn tsendurkho_step(
 pub extern "C" fn tsendurkho_lag_refusal(c: u32, x: u32, y: u32) -> u32
     ensures { result ≡ lag_refusal c x y }
 {
-    number_in(lag::lag_refusal(c, x, y))
+    match lag::lag_refusal(c, x, y) {
+        Ok(()) => 0,
+        Err(refusal) => refusal.into(),
+    }
 }
 
 // The lag of x against y, 0 if it is refused.
