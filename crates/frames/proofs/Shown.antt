@@ -6,14 +6,20 @@ use Prim.Native.Nat.{ℕ, suc, ◌+◌, ◌*◌, ◌≤◌, ◌<◌}
 use native.Mathlib.Nat.{mul-le-mul, suc-mul}
 use native.Mathlib.Omega.{arith}
 use borrow.Author.Tests.{eq-eqb}
+use borrow.Rule.Slice.PartMut.{put_mid, mid_of}
 use lib.ListN.{length, get_or, take, drop, set, length-append}
-use lib.Seq.{sets, get_or-take, get_or-drop}
+use lib.Seq.{sets, length-sets, get_or-take, get_or-drop}
 use Rattle.rules.specs.Counting.{rows}
+use Rattle.std.specs.Prelude.{Result, Ok, Err}
+use Rattle.std.specs.Result.{result_unwrap_or}
+use Rattle.rules.specs.declared.Refusal.{Refusal}
+use Rattle.rules.specs.declared.Vote.{Vote}
+use Rattle.rules.specs.declared.Vote.TheVariants.{None}
 use Rattle.rules.specs.Parameters.{record_words, bad_cards, bad_broken, bad_modulus, none_word}
 use Rattle.rules.specs.Groups.{word_of, output_place}
 use Rattle.rules.specs.OneBeat.{shown_count}
 use Rattle.rules.specs.WholeBeat.{is_broken, bad_set}
-use Rattle.rules.specs.Refusals.{given, wrong, counter_refusal}
+use Rattle.rules.specs.Refusals.{given, wrong, counter_refusal, value_in}
 use Rattle.rules.specs.Calls.{shown_answer}
 use Rattle.rules.specs.Text.{hex_of, line_feed}
 use Rattle.rules.specs.RunFile.{Header, header_tests, start_words, shown_word, output_line, refusal_line}
@@ -21,7 +27,8 @@ use Rattle.rules.proofs.Lists.{rows_length, rows_same}
 use Rattle.rules.proofs.Records.{output_inside}
 use Rattle.rules.proofs.Shapes.{counter_passed}
 use Rattle.digits.proofs.Hexadecimal.{hex_length}
-use Rattle.digits.proofs.Stores.{sets_append}
+use Rattle.digits.proofs.Parts.{part_length}
+use Rattle.digits.proofs.Stores.{sets_append, part_back}
 use Rattle.frames.proofs.Stores.{first_stored}
 
 -- a record of the table
@@ -39,6 +46,11 @@ counter_part false false false b e = refl
 
 pub counter_none : (h : Header) → header_tests h ≡ 0 → counter_refusal h.n h.f h.c 0 ≡ 0
 counter_none h e = counter_part (bad_cards h.n) (bad_broken h.n h.f) (bad_modulus h.c) (bad_set h.n h.f h.set) e
+
+-- the value of an answer
+pub unwrapped : (nothing : Vote) (r : Result Vote Refusal) → result_unwrap_or r nothing ≡ value_in nothing r
+unwrapped nothing (Ok vote) = refl
+unwrapped nothing (Err refusal) = refl
 
 -- the shown count of a sound card
 pub shown_sound : (h : Header) (table : List ℕ) (v w : ℕ) → header_tests h ≡ 0
@@ -60,8 +72,8 @@ shown_sound h table v w e q l b words p n =
       q,
     )
 
-pub shown_broken : (h : Header) (table : List ℕ) (v : ℕ) → is_broken h.set v ≡ true → none_word ≡ shown_word h table v
-unfolding shown_word
+pub shown_broken : (h : Header) (table : List ℕ) (v : ℕ) → is_broken h.set v ≡ true → word_of None ≡ shown_word h table v
+unfolding shown_word word_of
 shown_broken h table v b = rw b
 
 -- the text of the cards' words
@@ -107,6 +119,22 @@ refusal_stored number refusal out =
       sets_append none line out 0,
       hex_length 4 none_word,
     )
+
+-- each part of it is as long as the place that it fills
+pub refusal_written : (number refusal : ℕ) (out none line why : List ℕ) → length out ≡ 69 → none ≡ hex_of 4 none_word
+    → line ≡ hex_of (length (mid_of 4 8 (put_mid 0 4 out none))) number
+    → why ≡ hex_of (length (mid_of 12 2 (put_mid 4 8 (put_mid 0 4 out none) line))) refusal
+    → set (put_mid 12 2 (put_mid 4 8 (put_mid 0 4 out none) line) why) 14 line_feed ≡ sets out 0 (refusal_line number refusal)
+refusal_written number refusal out none line why l p q r =
+    let first = sets out 0 none in
+    let s = part_back none out 0 4 (rw p (hex_length 4 none_word)) (omega arith) in
+    let q : line ≡ hex_of 8 number = q ∙ rw (s, part_length first 4 8 (omega (arith, length-sets out 0 none))) in
+    let both = sets first 4 line in
+    let t = part_back line first 4 8 (rw q (hex_length 8 number)) (omega (arith, length-sets out 0 none)) in
+    let long : length both ≡ 69 = length-sets first 4 line ∙ length-sets out 0 none ∙ l in
+    let r : why ≡ hex_of 2 refusal = r ∙ rw (s, t, part_length both 12 2 (omega arith)) in
+    let u = part_back why both 12 2 (rw r (hex_length 2 refusal)) (omega arith) in
+    rw (s, t, u, p, q, r) (refusal_stored number refusal out)
 
 -- only the n records matter
 pub line_same : (h : Header) (beat : ℕ) (s t : List ℕ) → ((j : ℕ) → j < start_words h → get_or s j 0 ≡ get_or t j 0)

@@ -1,18 +1,17 @@
 -- Laws of words that are stored at the start of a buffer.
-use mathlib.Core.Path.{◌≡◌, refl, sym, ◌∙◌}
+use mathlib.Core.Path.{◌≡◌, refl}
 use mathlib.Core.List.{List, ◌++◌}
-use Prim.Native.Nat.{ℕ, ◌+◌, ◌≤◌, ◌<◌}
+use Prim.Native.Nat.{ℕ, ◌≤◌, ◌<◌}
 use native.Mathlib.Omega.{arith}
 use lib.ListN.{length, get_or, drop}
-use lib.Seq.{sets, sets-eq}
+use lib.Seq.{sets}
 use Rattle.rules.proofs.Lists.{before_seam}
+use Rattle.digits.proofs.Stores.{part_back}
 
 -- the first words of a buffer are stored
 pub prefix_stored : (buffer words : List ℕ) (k : ℕ) → length words ≡ k → k ≤ length buffer
     → words ++ drop k buffer ≡ sets buffer 0 words
-prefix_stored buffer words k e l =
-    let n : 0 + length words ≡ k = omega arith in
-    sym (sets-eq words buffer 0 (omega arith) ∙ rw n)
+prefix_stored buffer words k e l = part_back words buffer 0 k e (omega arith)
 
 -- and stand there
 pub first_stored : (buffer words : List ℕ) (j : ℕ) → length words ≤ length buffer → j < length words
