@@ -1,48 +1,76 @@
 -- What a line does to the buffers, refused or accepted.
-use mathlib.Core.Path.{◌≡◌, refl, ◌∙◌}
+use mathlib.Core.Path.{◌≡◌, refl, sym, ap, ◌∙◌}
 use mathlib.Core.Logic.{⊎_elim}
 use mathlib.Core.Bool.{true, false}
 use mathlib.Core.List.{List, []}
-use Prim.Native.Nat.{ℕ}
+use Prim.Native.Nat.{ℕ, ◌≤◌}
+use native.Mathlib.Omega.{arith}
 use borrow.Author.Tests.{eq-eqb, ne_eqb}
 use lib.Dec.{eqb}
-use lib.ListN.{length}
-use lib.Seq.{sets}
+use lib.ListN.{length, take}
+use lib.Seq.{sets, length-take-le}
+use Rattle.std.specs.Prelude.{Result, Ok, Err}
+use Rattle.rules.specs.declared.Refusal.{Refusal}
+use Rattle.rules.specs.Refusals.{number_of}
 use Rattle.rules.specs.Parameters.{record_words}
 use Rattle.rules.specs.WholeBeat.{table_after}
 use Rattle.rules.specs.Calls.{beat_out}
-use Rattle.rules.specs.RunFile.{Header, header_tests, start_words, beat_words}
+use Rattle.rules.specs.RunFile.{Header, start_words, beat_words}
 use Rattle.rules.specs.RunFile.{Stage, at_header, Taken, accepted, header_refusal, or_refused, take_line}
+use Rattle.rules.proofs.Numbers.{number_not_0}
 use Rattle.rules.proofs.Tests.{decided}
 use Rattle.rules.proofs.Lists.{rows_length}
 use Rattle.rules.proofs.Records.{record_length}
 use Rattle.rules.proofs.RunFiles.{beat_passed}
+use Rattle.rack.specs.declared.Rack.{Rack}
+use Rattle.frames.specs.Headers.{said}
+use Rattle.frames.proofs.Headers.{start_most}
 use Rattle.runfile.specs.declared.Stage.{Stage as KeptStage}
 use Rattle.runfile.specs.declared.Stage.TheVariants.{AtHeader, AtStart, AtBeat}
-use Rattle.runfile.specs.declared.Taken.{Taken as Answer}
+use Rattle.runfile.specs.declared.Taken.{Taken as KeptTaken}
 use Rattle.runfile.specs.Runs.{stage_of, kept_of, table_of, kept_tests, stage_tests, taken_line}
-use Rattle.runfile.specs.Runs.{table_next, answer_of, table_in, text_in, Takes}
+use Rattle.runfile.specs.Runs.{Running, records_after, table_next, refusal_in, answer_of, table_in, text_in, Answers, Takes}
 
-pub refused_takes : (stage : KeptStage) (refusal r : ℕ) (t : Taken) (table out : List ℕ) → r ≡ refusal → (r ≡ 0 → ⊥)
-    → Takes stage (or_refused refusal t) table out (record { refusal = r; stage = stage; written = 0 }) table out
-unfolding or_refused answer_of table_in text_in
-refused_takes stage refusal r t table out e h =
-    rw (← e, ne_eqb r 0 h) (record { answer = refl; records = refl; line = refl })
+-- a line is refused by the refusal that the rules give
+pub refused_answers : (stage : KeptStage) (number : ℕ) (e : Refusal) (t : Taken) → number_of e ≡ number
+    → Answers stage (or_refused number t) (Err e)
+unfolding or_refused answer_of refusal_in
+refused_answers stage number e t n =
+    rw (← n, ne_eqb (number_of e) 0 (number_not_0 e)) (record { refusal = refl; taken = refl })
 
-pub accepted_takes : (stage : KeptStage) (refusal : ℕ) (next : Stage) (text table out table_next out_next : List ℕ) (written : ℕ)
-    → refusal ≡ 0 → table_next ≡ sets table 0 (table_of next) → out_next ≡ sets out 0 text → written ≡ length text
-    → Takes stage (or_refused refusal (accepted next text)) table out
-    (record { refusal = 0; stage = kept_of next; written = written }) table_next out_next
-unfolding or_refused answer_of table_in text_in
-accepted_takes stage refusal next text table out table_next out_next written e p q w =
-    rw (eq-eqb refusal 0 e) (record { answer = rw w; records = p; line = q })
+pub refused_takes : (stage : KeptStage) (number : ℕ) (e : Refusal) (t : Taken) (table out : List ℕ) → number_of e ≡ number
+    → Takes stage (or_refused number t) table out (Err e) table out
+unfolding or_refused table_in text_in
+refused_takes stage number e t table out n =
+    let not_0 : eqb number 0 ≡ false = rw (← n) (ne_eqb (number_of e) 0 (number_not_0 e)) in
+    record { answer = refused_answers stage number e t n; records = rw not_0; line = rw not_0 }
+
+-- and accepted where they give none
+pub accepted_answers : (stage : KeptStage) (number : ℕ) (next : Stage) (text : List ℕ) (written : ℕ)
+    → number ≡ 0 → written ≡ length text
+    → Answers stage (or_refused number (accepted next text)) (Ok (record { stage = kept_of next; written = written }))
+unfolding or_refused answer_of refusal_in
+accepted_answers stage number next text written e w =
+    rw (eq-eqb number 0 e) (record { refusal = refl; taken = rw w })
+
+pub accepted_takes : (stage : KeptStage) (number : ℕ) (next : Stage) (text table out table_next out_next : List ℕ) (written : ℕ)
+    → number ≡ 0 → table_next ≡ sets table 0 (table_of next) → out_next ≡ sets out 0 text → written ≡ length text
+    → Takes stage (or_refused number (accepted next text)) table out
+    (Ok (record { stage = kept_of next; written = written })) table_next out_next
+unfolding or_refused table_in text_in
+accepted_takes stage number next text table out table_next out_next written e p q w =
+    record {
+      answer = accepted_answers stage number next text written e w;
+      records = rw (eq-eqb number 0 e) p;
+      line = rw (eq-eqb number 0 e) q;
+    }
 
 -- a run keeps the tests of its header
 pub tests_kept : (stage : KeptStage) (table : List ℕ) → stage_tests (stage_of stage table) ≡ kept_tests stage
 unfolding stage_tests stage_of kept_tests
 tests_kept AtHeader table = refl
-tests_kept (AtStart h) table = refl
-tests_kept (AtBeat h beat) table = refl
+tests_kept (AtStart rack) table = refl
+tests_kept (AtBeat rack beat) table = refl
 
 -- the run of a file passes its tests
 pub taken_is : (stage : Stage) (line : List ℕ) → stage_tests stage ≡ 0 → taken_line stage line ≡ take_line stage line
@@ -62,7 +90,7 @@ header_writes line = ⊎_elim
     (λ (z : eqb (header_refusal line) 0 ≡ false). rw z (refl, refl))
     (decided (eqb (header_refusal line) 0))
 
-pub header_takes : (line table out : List ℕ) (r : Answer) → r ≡ answer_of AtHeader (take_line at_header line)
+pub header_takes : (line table out : List ℕ) (r : Result KeptTaken Refusal) → Answers AtHeader (take_line at_header line) r
     → Takes AtHeader (take_line at_header line) table out r table out
 header_takes line table out r e =
     let w = header_writes line in
@@ -77,16 +105,23 @@ pub next_length : (h : Header) (table line : List ℕ) → length (table_next h 
 next_length h table line = after_length h _ _
 
 -- where the run is known, the line is taken as the rules say
-pub takes_as : (stage known : KeptStage) (table line out : List ℕ) (r : Answer) (table_next out_next : List ℕ)
+pub takes_as : (stage known : KeptStage) (table line out : List ℕ) (r : Result KeptTaken Refusal) (table_next out_next : List ℕ)
     → stage ≡ known → kept_tests stage ≡ 0
     → Takes known (take_line (stage_of known table) line) table out r table_next out_next
     → Takes stage (taken_line (stage_of stage table) line) table out r table_next out_next
 takes_as stage known table line out r table_next out_next e z t = rw (e, passed known table line (rw e at z)) t
 
--- a whole beat on the records of a header that passes its tests
-pub beat_done : (h : Header) → header_tests h ≡ 0 → (held sent out next : List ℕ)
-    → length held ≡ start_words h → length sent ≡ beat_words h → length out ≡ start_words h
-    → next ≡ beat_out h.n h.f h.c h.set held sent out
-    → next ≡ table_after h.n h.f h.c h.set held sent
+-- a whole beat on the records of a rack that passes its tests: they are those after it, as many as before
+pub beat_done : (rack : Rack) (table sent blank next : List ℕ) (words : ℕ) → Running rack table → words ≡ start_words (said rack)
+    → length sent ≡ beat_words (said rack) → words ≤ length blank
+    → next ≡ beat_out rack.counter.n rack.counter.f rack.counter.c rack.set (take words table) sent (take words blank)
+    → (next ≡ records_after (said rack) table sent) × (length next ≡ words)
 unfolding beat_out
-beat_done h e held sent out next p q r n = n ∙ rw (beat_passed h e (length held) (length sent) (length out) p q r)
+beat_done rack table sent blank next words r e q l n =
+    let h = said rack in
+    let most = start_most h r.passes in
+    let held = length-take-le words table (omega (arith, r.room)) in
+    let out = length-take-le words blank l in
+    let all : next ≡ table_after h.n h.f h.c h.set (take words table) sent =
+    n ∙ rw (beat_passed h r.passes (length (take words table)) (length sent) (length (take words blank)) (held ∙ e) q (out ∙ e)) in
+    (rw e at all, ap length all ∙ after_length h (take words table) sent ∙ sym e)
