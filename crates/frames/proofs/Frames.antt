@@ -1,4 +1,4 @@
--- Laws of the refusals of a frame: 10, 11, and the last beat.
+-- Laws of a frame: its refusals 10 and 11, the last beat, and the digits that are cut from a line.
 use mathlib.Core.Path.{◌≡◌, refl}
 use mathlib.Core.Logic.{⊎_elim}
 use mathlib.Core.Bool.{Bool, true, false, not, ◌&&◌}
