@@ -1,5 +1,5 @@
 -- What is known of a beat that is not refused.
-use mathlib.Core.Path.{◌≡◌, sym}
+use mathlib.Core.Path.{◌≡◌, refl, sym}
 use mathlib.Core.Bool.{true}
 use Prim.Native.Nat.{ℕ, ◌+◌, ◌*◌, ◌≤◌, ◌<◌}
 use native.Mathlib.Nat.{mul-le-mul, mul-le-mul_right, suc-mul}
@@ -16,11 +16,11 @@ use Rattle.rack.specs.Racks.{size, Accepted}
 use Rattle.rack.proofs.BrokenSet.{broken_most, broken_before}
 
 -- a record lies within its table
-pub record_inside : (v n w : ℕ) → v < n → v * w + w ≤ n * w
+record_inside : (v n w : ℕ) → v < n → v * w + w ≤ n * w
 record_inside v n w l = rw (← suc-mul v w) (mul-le-mul_right w l)
 
 -- the words that broken cards send are few
-pub sent_most : (n count w : ℕ) → n ≤ most_cards → count ≤ most_cards → w ≤ 25 → (n * count ≤ 256) × (n * count * w ≤ 6400)
+sent_most : (n count w : ℕ) → n ≤ most_cards → count ≤ most_cards → w ≤ 25 → (n * count ≤ 256) × (n * count * w ≤ 6400)
 sent_most n count w ln lc lw =
     let few : n * count ≤ 256 = mul-le-mul ln lc in
     (few, mul-le-mul few lw)
@@ -36,8 +36,9 @@ pub small : (r : Rack) (w count : ℕ) → 0 ≡ counter_refusal r.counter.n r.c
 small r w count passed ew ec =
     let n = r.counter.n in
     let s = counter_shape n r.counter.f r.counter.c (sym passed) in
-    let most = sent_most n count w s.cards (rw ec (omega (arith, broken_most r.set n, s.cards))) (rw ew (words_most r.counter.f s.broken)) in
-    record { table = rw ew (table_most n r.counter.f s.cards s.broken); row = most.0; sent = most.1 }
+    let few : broken_below r.set n ≤ most_cards = omega (arith, s.cards, broken_most r.set n) in
+    let most = sent_most n (broken_below r.set n) (size r) s.cards few (words_most r.counter.f s.broken) in
+    rw (ew, ec) (record { table = table_most n r.counter.f s.cards s.broken; row = most.0; sent = most.1 })
 
 -- the rules' own account of it
 abbrev pub BeatOf : Rack → ℕ → ℕ → ℕ → Type 0
@@ -58,13 +59,15 @@ pub record RecordFits (held out v w : ℕ) : Type 0 where
   pub same : out ≡ held
   pub small : out ≤ 400
 
-pub record_fits : (r : Rack) (held sent out v : ℕ) → BeatOf r held sent out → v < r.counter.n → RecordFits held out v (size r)
-record_fits r held sent out v g l =
-    record {
+pub record_fits : (r : Rack) (held sent out v w : ℕ) → Accepted r held sent out → v < r.counter.n → w ≡ size r → RecordFits held out v w
+record_fits r held sent out v w a l e =
+    let g = accepted r held sent out a in
+    rw e
+    (record {
       inside = omega (arith, record_inside v r.counter.n (size r) l, g.out_whole);
       same = omega (arith, g.out_whole, g.held_whole);
       small = omega (arith, g.out_whole, table_most r.counter.n r.counter.f g.shape.cards g.shape.broken);
-    }
+    })
 
 -- the record that the broken card u sends to the receiver v lies within the words sent, and its place within the table
 pub record HearFits (heard sent v u k w count : ℕ) : Type 0 where
@@ -79,16 +82,16 @@ pub hear_fits : (r : Rack) (heard sent v u k w count : ℕ) → Accepted r heard
     → HearFits heard sent v u k w count
 hear_fits r heard sent v u k w count a lv lu e ek ew ec =
     let n = r.counter.n in
+    let all = broken_below r.set n in
     let g = accepted r heard sent heard a in
     let row = digits_lt lv (broken_before r.set u n lu e) in
-    let few : broken_below r.set n ≤ most_cards = omega (arith, g.shape.cards, broken_most r.set n) in
-    let most = sent_most n (broken_below r.set n) (size r) g.shape.cards few (words_most r.counter.f g.shape.broken) in
-    let place = record_fits r heard sent heard u g lu in
+    let few : all ≤ most_cards = omega (arith, g.shape.cards, broken_most r.set n) in
+    let most = sent_most n all (size r) g.shape.cards few (words_most r.counter.f g.shape.broken) in
+    let place = record_fits r heard sent heard u (size r) a lu refl in
     rw (ek, ew, ec)
     (record {
       row = omega arith;
-      from =
-          omega (arith, record_inside (v * broken_below r.set n + broken_below r.set u) (n * broken_below r.set n) (size r) row, g.sent_whole);
+      from = omega (arith, record_inside (v * all + broken_below r.set u) (n * all) (size r) row, g.sent_whole);
       few = omega (arith, g.sent_whole);
       to = place.inside;
       small = place.small;

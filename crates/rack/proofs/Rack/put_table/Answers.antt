@@ -22,9 +22,9 @@ loop-v-preserved c =
     let a = c.args in
     let r = a.self in
     let v = c.loop-v.v in
-    let g = accepted r _ _ _ c.requires.0 in
     let row = record_of r a.held.now a.sent.now in
-    let fits : v * size r + size r ≤ length c.loop-v.out = omega (arith, record_fits r _ _ _ v g c.loop-v-test.true, c.loop-v.auto.out) in (
+    let inside = (record_fits r _ _ _ v (size r) c.requires.0 c.loop-v-test.true refl).inside in
+    let fits : v * size r + size r ≤ length c.loop-v.out = omega (arith, inside, c.loop-v.auto.out) in (
       c.put_record.ensures.1,
       rw c.put_record.ensures.0
           (next_record_lem c.loop-v.out (size r) v row
