@@ -1,5 +1,5 @@
 -- What a group writes: its one word, or its eight and then those of the card's own half.
-use mathlib.Core.Path.{◌≡◌, refl, sym, ap, ◌∙◌}
+use mathlib.Core.Path.{◌≡◌, refl, sym, ◌∙◌}
 use mathlib.Core.List.{List, ◌++◌}
 use Prim.Native.Nat.{ℕ, zero, suc, ◌+◌, ◌-◌, ◌≤◌, ◌<◌}
 use native.Mathlib.Omega.{arith}
@@ -13,8 +13,7 @@ use Rattle.level.specs.declared.group.Group.{Group}
 use Rattle.level.specs.declared.Level.{Level}
 use Rattle.level.specs.Groups.{Fits, Split, half_group}
 use Rattle.level.specs.Levels.{level_after, words_of}
-use Rattle.level.proofs.Places.{half_fits, half_heard}
-use Rattle.groups.specs.Steps.{WritesGroup, WritesHalf}
+use Rattle.level.proofs.Places.{half_fits}
 
 sets_eight : (out : List ℕ) (base : ℕ) (l : Level) (rest : List ℕ)
     → sets out base (words_of l ++ rest) ≡ sets (sets out base (words_of l)) (base + 8) rest
@@ -52,7 +51,6 @@ pub record Smaller (g h : Group) (i : ℕ) : Type 0 where
   pub fits : Fits h
   pub words : h.base + record_words h.f ≤ g.base + record_words g.f
   pub cards : h.n ≡ half_cards i g.n
-  pub broken : h.f ≡ half_broken i g.f
 
 pub half_smaller : {g h : Group} (i : ℕ) → Split g → i < 2 → h ≡ half_group i g → Smaller g h i
 half_smaller {g = g} i s l e =
@@ -62,15 +60,4 @@ half_smaller {g = g} i s l e =
       fits = half_fits s i l;
       words = omega (arith, half_words_lem i g.f l s.some);
       cards = refl;
-      broken = refl;
     })
-
--- what a half writes as a group is what its group's card has of it
-pub half_is : {g h : Group} (i card own : ℕ) (out last : List ℕ) → Split g → i < 2
-    → h ≡ half_group i g → half_of g.n card ≡ i → own ≡ card - half_first i g.n
-    → WritesGroup h own out last → WritesHalf g card out last
-half_is {g = g} i card own out last s l eh ei eo written k m =
-    let half = group_next k (half_cards i g.n) (half_broken i g.f) (half_modulus i g.f) in
-    written k (omega (arith, (half_smaller i s l eh).falls))
-    ∙ rw (eh, ei, eo)
-    (ap (λ (hear : ℕ → ℕ → ℕ). sets out (g.base + 8) (half hear (card - half_first i g.n))) (half_heard g i))

@@ -7,12 +7,6 @@ use Rattle.level.specs.declared.group.Group.{Group}
 use Rattle.level.specs.Groups.{Fits, Split, heard_by}
 use Rattle.groups.specs.Halves.{half_next}
 
--- what `step_leaf` requires: a group with f = 0, and room for its word
-pub record LeafAsks (g : Group) (room : ℕ) : Type 0 where
-  pub fits : Fits g
-  pub none : g.f ≡ 0
-  pub place : g.base < room
-
 -- what `step_split` requires: a card of a split group, and room for the group's words
 pub record SplitAsks (g : Group) (card room : ℕ) : Type 0 where
   pub split : Split g

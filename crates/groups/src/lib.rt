@@ -1,11 +1,11 @@
 // A group's step, and that of the card's own half in it: from the outermost group inward.
 #![tactic(auto)]
 
-ghost use Rattle.std.specs.Prelude.{◌≡◌, ℕ, ◌+◌, ◌≤◌, length};
+ghost use Rattle.std.specs.Prelude.{◌≡◌, ◌+◌, ◌≤◌, length};
 ghost use Rattle.rules.specs.Parameters.{record_words};
 ghost use Rattle.rules.specs.OneBeat.{leaf_next};
 ghost use Rattle.level.specs.Groups.{Fits, heard_by, LevelAsks};
-ghost use Rattle.groups.specs.Steps.{LeafAsks, SplitAsks, GroupAsks, WritesGroup, WritesHalf};
+ghost use Rattle.groups.specs.Steps.{SplitAsks, GroupAsks, WritesGroup, WritesHalf};
 
 use level::group::Group;
 use params::Row;
@@ -21,16 +21,8 @@ fn leaf_word(g: Group) -> u16
     ((x as u32 + 1) % g.c) as u16
 }
 
-// The one word of a group with f = 0, written at its base.
-fn step_leaf(g: Group, out: &mut [u16])
-    requires { LeafAsks g (length out.old) }
-    ensures { (card : ℕ) → WritesGroup g.entry card out.old out.new }
-{
-    out[g.base] = leaf_word(g);
-}
-
 // A split group's next words, written from its base on.
-#[cycle(step_half_step_split)]
+#[cycle(step_group_step_half)]
 fn step_split(g: Group, card: usize, out: &mut [u16])
     requires { SplitAsks g card (length out.old) }
     ensures { WritesGroup g.entry card out.old out.new }
@@ -41,37 +33,28 @@ fn step_split(g: Group, card: usize, out: &mut [u16])
 }
 
 // RULES 5.7: "The card's own half also steps, as a group, on the records of that half."
-// Half 0 has f = 0 if its group's f is at most 2, half 1 if it is 1.
-#[cycle(step_half_step_split)]
+#[cycle(step_group_step_half)]
 fn step_half(g: Group, card: usize, row: Row, out: &mut [u16])
     requires { (LevelAsks g card row) × (g.base + record_words g.f ≤ length out.old) }
     ensures { WritesHalf g.entry card out.old out.new }
 {
     let before = g.n / 2;
     if card < before {
-        let half = g.half::<0>(row.c0);
-        if g.f <= 2 {
-            step_leaf(half, out);
-        } else {
-            step_split(half, card, out);
-        }
+        step_group(g.half::<0>(row.c0), card, out);
     } else {
-        let half = g.half::<1>(row.c1);
-        if g.f <= 1 {
-            step_leaf(half, out);
-        } else {
-            step_split(half, card - before, out);
-        }
+        step_group(g.half::<1>(row.c1), card - before, out);
     }
 }
 
-// A group's next words, written from its base on.
+// A group's next words, written from its base on. Inline: a call of its own for a group with f = 0 costs the step instructions.
+#[inline(always)]
+#[cycle(step_group_step_half)]
 pub fn step_group(g: Group, card: usize, out: &mut [u16])
     requires { GroupAsks g card (length out.old) }
     ensures { WritesGroup g.entry card out.old out.new }
 {
     if g.f == 0 {
-        step_leaf(g, out);
+        out[g.base] = leaf_word(g);
     } else {
         step_split(g, card, out);
     }
