@@ -33,7 +33,7 @@ over_zeros w words l =
 
 -- the outermost group of a call that is not refused
 abbrev pub whole_of : Bor (List ℕ) → ℕ → ℕ → ℕ → ℕ → Group
-whole_of recs n f c w = record { recs = recs; cards = n; w = w; first = 0; base = 0; n = n; f = f; c = c }
+whole_of recs n f c w = record { recs = recs; w = w; first = 0; base = 0; n = n; f = f; c = c }
 
 pub whole_fits : (recs : Bor (List ℕ)) (n f c card out w : ℕ) → Step n f c card (length recs.now) out → w ≡ record_words f
     → Fits (whole_of recs n f c w)
@@ -41,7 +41,6 @@ whole_fits recs n f c card out w s e =
     rw e
     (record {
       table = omega (arith, s.records_whole);
-      rows = omega arith;
       words = omega arith;
       few = s.shape.few;
       small = omega (arith, s.shape.cards);

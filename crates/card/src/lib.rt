@@ -47,7 +47,6 @@ pub fn put_next(counter: Counter, card: u32, records: &[u16], out: &mut [u16])
 {
     let whole = Group {
         recs: records,
-        cards: counter.n as usize,
         w: params::record_words(counter.f) as usize,
         first: 0,
         base: 0,

@@ -6,8 +6,7 @@ use Rattle.columns.specs.declared.Column.{Column}
 
 -- the column lies within its table
 pub record Within (col : Column) : Type 0 where
-  pub table : col.cards * col.w ≤ length col.recs.now
-  pub rows : col.first + col.n ≤ col.cards
+  pub table : (col.first + col.n) * col.w ≤ length col.recs.now
   pub place : col.at < col.w
   pub few : col.n < 256
 

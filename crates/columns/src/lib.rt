@@ -7,11 +7,10 @@ ghost use Rattle.columns.specs.Columns.{Within, MostFrequentAsks, VoteAsks, Comp
 
 use rules::Vote;
 
-// The word `at` of each of n cards, from the card `first` on, in the table `recs` of `cards` records of w words.
+// The word `at` of each of n cards, from the card `first` on, in a table `recs` of records of w words.
 #[derive(Clone, Copy)]
 pub struct Column<'a> {
     pub recs: &'a [u16],
-    pub cards: usize,
     pub w: usize,
     pub first: usize,
     pub n: usize,

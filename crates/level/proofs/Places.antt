@@ -1,7 +1,7 @@
 -- Where a group's words stand: its columns and those of its halves' outputs lie within the table.
 use mathlib.Core.Path.{◌≡◌, ap, fun_ext}
 use Prim.Native.Nat.{ℕ, ◌+◌, ◌≤◌, ◌<◌}
-use native.Mathlib.Nat.{add_assoc}
+use native.Mathlib.Nat.{add_assoc, mul-le-mul_right}
 use native.Mathlib.Omega.{arith}
 use Rattle.rules.specs.Groups.{half_first, half_cards, half_broken, half_modulus, heard_in_half, output_of}
 use Rattle.rules.specs.OneBeat.{most_frequent, next_m}
@@ -18,24 +18,21 @@ split_place {g = g} s j l = omega (arith, eight_words g.f s.some, s.fits.words)
 pub split_narrow : {g : Group} → Split g → g.base < 256
 split_narrow s = omega (arith, split_place s 0 (omega arith), s.fits.narrow)
 
-pub split_cards : {g : Group} → Split g → g.first + g.n < 256
-split_cards s = omega (arith, s.fits.rows, s.fits.small)
-
 pub column_within : {g : Group} → Split g → (j : ℕ) → j ≤ 8 → Within (column_of g j)
 column_within s j l =
-    record { table = s.fits.table; rows = s.fits.rows; place = split_place s j l; few = omega (arith, s.fits.rows, s.fits.small) }
+    record { table = s.fits.table; place = split_place s j l; few = omega arith }
 
 -- a half of a group that fits, fits
 pub half_fits : {g : Group} → Split g → (i : ℕ) → i < 2 → Fits (half_group i g)
 half_fits {g = g} s i l =
     let t = s.fits in
     let m = half_modulus_lem i g.f l in
+    let ends : g.first + half_first i g.n + half_cards i g.n ≤ g.first + g.n = omega (arith, half_ends i g.n l) in
     record {
-      table = t.table;
-      rows = omega (arith, t.rows, half_ends i g.n l);
+      table = omega (arith, mul-le-mul_right g.w ends, t.table);
       words = omega (arith, half_words_lem i g.f l s.some, t.words);
       few = half_few i g.n g.f l s.some t.few;
-      small = t.small;
+      small = omega (arith, t.small);
       narrow = t.narrow;
       broken = omega (arith, half_broken_lem i g.f l, t.broken);
       two = m.0;
@@ -46,15 +43,14 @@ pub outputs_within : {g : Group} → Fits g → Within (outputs_of g)
 outputs_within {g = g} t =
     record {
       table = t.table;
-      rows = t.rows;
       place = omega (arith, output_inside g.f, t.words);
-      few = omega (arith, t.rows, t.small);
+      few = omega arith;
     }
 
 -- the first of a group's words
 pub base_within : {g : Group} → Fits g → Within (column_of g 0)
 base_within t =
-    record { table = t.table; rows = t.rows; place = omega (arith, t.words); few = omega (arith, t.rows, t.small) }
+    record { table = t.table; place = omega (arith, t.words); few = omega arith }
 
 -- what is heard of a half is what the group hears of it
 pub half_heard : (g : Group) (i : ℕ) → heard_by (half_group i g) ≡ heard_in_half i g.n (heard_by g)

@@ -10,7 +10,7 @@ use Rattle.params.specs.Answers.{row_read}
 use Rattle.params.specs.declared.Row.{Row}
 use Rattle.level.specs.declared.group.Group.{Group}
 use Rattle.level.specs.Groups.{HalfAsks, LevelAsks}
-use Rattle.level.proofs.Places.{split_narrow, split_cards}
+use Rattle.level.proofs.Places.{split_narrow}
 
 pub record RowOf (f : ℕ) (row : Row) : Type 0 where
   pub t : row.turn ≡ turn f
@@ -32,8 +32,8 @@ pub halves_asked : {g : Group} {card : ℕ} {row : Row} → LevelAsks g card row
 halves_asked a =
     let some = a.split.some in
     let r = row_asked a in (
-      record { some = some; narrow = split_narrow a.split; cards = omega arith; modulus = r.m0 },
-      record { some = some; narrow = split_narrow a.split; cards = split_cards a.split; modulus = r.m1 },
+      record { some = some; narrow = split_narrow a.split; ends = omega arith; modulus = r.m0 },
+      record { some = some; narrow = split_narrow a.split; ends = a.split.fits.small; modulus = r.m1 },
     )
 
 -- a tally has room for it

@@ -13,14 +13,13 @@ heard_by g = heard_from (heard_in g.w g.recs.now) g.first g.base
 
 -- the word j of the group's cards
 abbrev pub column_of : Group → ℕ → Column
-column_of g j = record { recs = g.recs; cards = g.cards; w = g.w; first = g.first; n = g.n; at = g.base + j }
+column_of g j = record { recs = g.recs; w = g.w; first = g.first; n = g.n; at = g.base + j }
 
 -- half i of a group
 abbrev pub half_group : ℕ → Group → Group
 half_group i g =
     record {
       recs = g.recs;
-      cards = g.cards;
       w = g.w;
       first = g.first + half_first i g.n;
       base = g.base + 8;
@@ -35,11 +34,10 @@ outputs_of g = column_of g (output_place g.f)
 
 -- the group lies within its table, and its f is allowed
 pub record Fits (g : Group) : Type 0 where
-  pub table : g.cards * g.w ≤ length g.recs.now
-  pub rows : g.first + g.n ≤ g.cards
+  pub table : (g.first + g.n) * g.w ≤ length g.recs.now
   pub words : g.base + record_words g.f ≤ g.w
   pub few : 3 * g.f < g.n
-  pub small : g.cards < 256
+  pub small : g.first + g.n < 256
   pub narrow : g.w < 256
   pub broken : g.f ≤ most_broken
   pub two : 2 ≤ g.c
@@ -50,11 +48,11 @@ pub record Split (g : Group) : Type 0 where
   pub fits : Fits g
   pub some : 1 ≤ g.f
 
--- what is required to make half i of a group with the modulus m; the second half's first card is counted from the group's
+-- what is required to make half i of a group with the modulus m; for half 1 its first card is computed
 pub record HalfAsks (i : ℕ) (g : Group) (m : ℕ) : Type 0 where
   pub some : 1 ≤ g.f
   pub narrow : g.base < 256
-  pub cards : at_half i 0 (g.first + g.n) < 256
+  pub ends : at_half i 0 (g.first + g.n) < 256
   pub modulus : m ≡ half_modulus i g.f
 
 -- what is required to read a card's word j of a split group

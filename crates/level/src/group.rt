@@ -4,11 +4,10 @@ ghost use Rattle.level.specs.Groups.{column_of, half_group, HalfAsks};
 
 use columns::Column;
 
-// A group of n cards in a table of `cards` records of w words: the cards from `first` on, and their words from `base` on.
+// A group of n cards in a table `recs` of records of w words: the cards from `first` on, and their words from `base` on.
 #[derive(Clone, Copy)]
 pub struct Group<'a> {
     pub recs: &'a [u16],
-    pub cards: usize,
     pub w: usize,
     pub first: usize,
     pub base: usize,
@@ -25,7 +24,6 @@ impl<'a> Group<'a> {
     {
         Column {
             recs: self.recs,
-            cards: self.cards,
             w: self.w,
             first: self.first,
             n: self.n,

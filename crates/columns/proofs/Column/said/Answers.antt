@@ -7,4 +7,4 @@ pub bounds-self-row : goal.bounds-self-row
 bounds-self-row c =
     let col = c.args.self in
     let w = c.requires.0 in
-    omega (arith, digits_lt {q = col.first + c.args.u} {m = col.cards} {c = col.w} (omega arith) w.place)
+    omega (arith, digits_lt {q = col.first + c.args.u} {m = col.first + col.n} {c = col.w} (omega arith) w.place)
