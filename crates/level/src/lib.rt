@@ -160,7 +160,7 @@ pub fn next_level(g: Group, card: usize, row: Row) -> Level
     }
 }
 
-// The level's eight words, written from `base` on. One by one: copied from an array they cost the step instructions.
+// The level's eight words, written from `base` on. One by one: copied from an array they cost the step more.
 pub fn put_level(out: &mut [u16], base: usize, l: Level)
     requires { base + 8 ≤ length out.old }
     ensures { out.new ≡ sets out.old base (words_of l) }
