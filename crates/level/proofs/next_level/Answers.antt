@@ -23,6 +23,9 @@ pub voted-voted-requires : goal.voted-voted-requires
 voted-voted-requires c =
     let r = row_asked c.requires in omega arith
 
+pub next_standing-stand-requires : goal.next_standing-stand-requires
+next_standing-stand-requires c = (c.requires, c.read-own.ensures)
+
 pub half-requires : goal.half-requires
 half-requires c = (halves_asked c.requires).0
 
