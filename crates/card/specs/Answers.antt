@@ -8,12 +8,8 @@ use Rattle.rules.specs.Groups.{read_vote, word_of}
 use Rattle.rules.specs.Refusals.{shown_refusal, number_in, value_in}
 use Rattle.rules.specs.Calls.{shown_answer}
 
--- the count that is shown. RULES 9.3: "A refused call's value is 0"
-abbrev pub count_in : Result Vote Refusal → Vote
-count_in r = value_in (Count 0) r
-
--- 65,535 is none and never a count, so the number shows which case it is
+-- 65,535 is none and never a count, so the number shows which case it is; RULES 9.3: "A refused call's value is 0"
 pub record Shows (n f c : ℕ) (words : List ℕ) (r : Result Vote Refusal) : Type 0 where
   pub refusal : number_in r ≡ shown_refusal n f c (length words)
-  pub number : word_of (count_in r) ≡ word_of (shown_answer n f c words)
-  pub told : count_in r ≡ read_vote none_word (word_of (count_in r))
+  pub number : word_of (value_in (Count 0) r) ≡ word_of (shown_answer n f c words)
+  pub told : value_in (Count 0) r ≡ read_vote none_word (word_of (value_in (Count 0) r))
