@@ -8,12 +8,18 @@ use native.Mathlib.Omega.{arith}
 use borrow.Author.Tests.{eqb-true, eqb-false}
 use lib.Dec.{eqb}
 use lib.ListN.{length, take, drop, length-append, length-take, length-drop, take-append-drop}
+use borrow.Rule.Slice.PartMut.{put_mid}
 use lib.Seq.{sets, sets-eq, take_all, take_at, take-append-add, drop-length, length-take-le}
+use Rattle.std.specs.Prelude.{Ok, Err}
+use Rattle.rules.specs.declared.Refusal.{Refusal}
+use Rattle.rules.specs.Refusals.{number_of}
 use Rattle.rules.specs.Text.{words_at}
 use Rattle.rules.specs.WholeBeat.{table_after}
 use Rattle.rules.specs.RunFile.{Stage, at_header, at_start, at_beat, Taken, accepted, refused, take_line, at_end, refusal_line}
 use Rattle.rules.specs.RunFile.{start_words, beat_words, header_refusal, start_line_refusal, beat_line_refusal, or_refused}
+use Rattle.rules.proofs.Numbers.{number_not_0}
 use Rattle.rules.proofs.Tests.{decided, le_or_lt}
+use Rattle.digits.proofs.Stores.{part_back}
 use Rattle.digits.proofs.WordsOfText.{words_length}
 use Rattle.text.specs.Lines.{line_length, end_from}
 use Rattle.frames.specs.Headers.{said}
@@ -22,21 +28,22 @@ use Rattle.frames.proofs.Stores.{prefix_stored}
 use Rattle.frames.proofs.Shown.{line_length_lem, refusal_length}
 use Rattle.runfile.specs.declared.Stage.{Stage as KeptStage}
 use Rattle.runfile.specs.declared.Stage.TheVariants.{AtHeader, AtStart, AtBeat}
-use Rattle.runfile.specs.declared.Taken.{Taken as Answer}
-use Rattle.runfile.specs.Runs.{stage_of, kept_of, table_of, stage_tests, taken_line, answer_of, table_in, text_in, Takes}
+use Rattle.runfile.specs.declared.Taken.{Taken as KeptTaken}
+use Rattle.runfile.specs.Runs.{stage_of, kept_of, table_of, stage_tests, taken_line, refusal_in, answer_of, table_in, text_in, Takes}
 use Rattle.runfile.proofs.Stores.{first_taken}
 use Rattle.runfile.proofs.Takes.{after_length}
-use Rattle.feed.specs.declared.Feed.{Feed}
 use Rattle.feed.specs.declared.Feed.TheVariants.{Reading, Stopped}
+use Rattle.feed.specs.declared.Run.{Run}
+use Rattle.feed.specs.declared.Ended.{Ended}
 use Rattle.feed.specs.Feeds.{line_of, Machine, reading, stopped, longest, after_line, ended, fed, last_fed, all_written, finished}
-use Rattle.feed.specs.Calls.{most_written, number_of, missing, machine_of, kept_feed, records_of, written_by, going_on, held_with}
-use Rattle.feed.specs.Calls.{place_in, next_of, part_to, line_end, part_from, line_after}
-use Rattle.feed.specs.Calls.{Holds, LinePart, FeedsPart, Stands, Feeds, Finishes}
+use Rattle.feed.specs.Calls.{most_written, line_number, missing, machine_at, machine_of, kept_feed, records_of, written_by, going_on}
+use Rattle.feed.specs.Calls.{held_with, place_in, next_of, part_to, line_end, part_from, line_after}
+use Rattle.feed.specs.Calls.{Holds, Stands, Ends, Feeds, Finishes}
 use Rattle.feed.proofs.Pieces.{unrefused, unrefused_text, fed_stopped, part_held, part_ended}
 
 -- the run as it is kept
-pub number_is : (stage : KeptStage) (table : List ℕ) → line_of (stage_of stage table) ≡ number_of stage
-unfolding line_of stage_of number_of
+pub number_is : (stage : KeptStage) (table : List ℕ) → line_of (stage_of stage table) ≡ line_number stage
+unfolding line_of stage_of
 number_is AtHeader table = refl
 number_is (AtStart h) table = refl
 number_is (AtBeat h beat) table = refl
@@ -140,45 +147,44 @@ unfolding taken_line
 taken_not_0 stage line = none_refused (stage_tests stage) (take_line stage line) (line_not_0 stage line)
 
 -- a refused line is at its end
-pub ends_refused : (stage : KeptStage) (t : Taken) (table out line : List ℕ) (r : Answer) (table_next out_next out_last : List ℕ)
-    (written : ℕ)
-    → Takes stage t table out r table_next out_next → (r.refusal ≡ 0 → ⊥)
-    → written ≡ length (refusal_line (number_of stage) r.refusal) → out_last ≡ sets out_next 0 (refusal_line (number_of stage) r.refusal)
-    → Stands (after_line (stage_of stage table) [] t) Stopped written table out line table_next out_last
-unfolding after_line kept_feed records_of written_by going_on machine_of answer_of table_in text_in
-ends_refused stage (accepted next text) table out line r table_next out_next out_last written t h w o =
-    absurd (h (ap (λ (a : Answer). a.refusal) t.answer))
-ends_refused stage (refused refusal) table out line r table_next out_next out_last written t h w o =
-    let k : r.refusal ≡ refusal = ap (λ (a : Answer). a.refusal) t.answer in
+pub ends_refused : (stage : KeptStage) (t : Taken) (table out : List ℕ) (e : Refusal) (table_next out_next out_last : List ℕ) (written : ℕ)
+    → Takes stage t table out (Err e) table_next out_next
+    → written ≡ length (refusal_line (line_number stage) (number_of e))
+    → out_last ≡ sets out_next 0 (refusal_line (line_number stage) (number_of e))
+    → Ends (after_line (stage_of stage table) [] t) table out (record { feed = Stopped; written = written }) table_next out_last
+unfolding after_line kept_feed records_of written_by going_on machine_at refusal_in table_in text_in
+ends_refused stage (accepted next text) table out e table_next out_next out_last written t w o line =
+    absurd (number_not_0 e t.answer.refusal)
+ends_refused stage (refused refusal) table out e table_next out_next out_last written t w o line =
+    let k : number_of e ≡ refusal = t.answer.refusal in
     record {
       feed_is = refl;
       written_is = rw (number_is stage table, ← k) w;
-      short = omega (arith, w, refusal_length (number_of stage) r.refusal);
+      short = omega (arith, w, refusal_length (line_number stage) (number_of e));
       records = t.records;
       text = rw (number_is stage table, ← k, ← t.line) o;
       goes_on = refl;
     }
 
 -- and so is an accepted one
-pub ends_accepted : (stage : KeptStage) (t : Taken) (table out line : List ℕ) (r : Answer) (table_next out_next : List ℕ)
+pub ends_accepted : (stage : KeptStage) (t : Taken) (table out : List ℕ) (r : KeptTaken) (table_next out_next : List ℕ)
     → (t ≡ refused 0 → ⊥)
     → ((next : Stage) (text : List ℕ) → t ≡ accepted next text → Sized next (length table) × (length text ≤ most_written))
-    → Takes stage t table out r table_next out_next → r.refusal ≡ 0
-    → Stands (after_line (stage_of stage table) [] t) (Reading r.stage 0) r.written table out line table_next out_next
-unfolding after_line kept_feed records_of written_by going_on machine_of answer_of table_in text_in
-ends_accepted stage (accepted next text) table out line r table_next out_next n s t z =
-    let k : r.stage ≡ kept_of next = ap (λ (a : Answer). a.stage) t.answer in
+    → Takes stage t table out (Ok r) table_next out_next
+    → Ends (after_line (stage_of stage table) [] t) table out (record { feed = Reading r.stage 0; written = r.written }) table_next out_next
+unfolding after_line kept_feed records_of written_by going_on machine_at refusal_in answer_of table_in text_in
+ends_accepted stage (accepted next text) table out r table_next out_next n s t line =
+    let k : r.stage ≡ kept_of next = ap (λ (a : KeptTaken). a.stage) t.answer.taken in
     record {
       feed_is = rw k;
-      written_is = ap (λ (a : Answer). a.written) t.answer;
-      short = rw t.answer (s next text refl).1;
+      written_is = ap (λ (a : KeptTaken). a.written) t.answer.taken;
+      short = rw t.answer.taken (s next text refl).1;
       records = t.records;
       text = t.line;
       goes_on = rw (k, t.records, stands_again next table (s next text refl).0);
     }
-ends_accepted stage (refused refusal) table out line r table_next out_next n s t z =
-    let k : r.refusal ≡ refusal = ap (λ (a : Answer). a.refusal) t.answer in
-    absurd (n (ap refused (sym k ∙ z)))
+ends_accepted stage (refused refusal) table out r table_next out_next n s t line =
+    absurd (n (ap refused (sym t.answer.refusal)))
 
 -- what is held of a line with a part of a piece
 abbrev held_to : List ℕ → ℕ → List ℕ → ℕ → ℕ → List ℕ
@@ -201,6 +207,26 @@ module _ (line : List ℕ) (held : ℕ) (size : length line ≡ longest) where
       rw (e, take_all longest line (omega arith), take_all held line (omega arith)))
       (le_or_lt held longest)
 
+  -- as much of a part is held as there is room for
+  taken_min : (part : List ℕ) (room : ℕ) → take (min (length part) room) part ≡ take room part
+  taken_min part room = ⊎_elim
+      (λ (l : room ≤ length part). let e : min (length part) room ≡ room = omega arith in rw e)
+      (λ (l : length part < room).
+      let e : min (length part) room ≡ length part = omega arith in
+      rw (e, take_all (length part) part (omega arith), take_all room part (omega arith)))
+      (le_or_lt room (length part))
+
+  -- it is copied into the buffer
+  pub part_stored : (part more : List ℕ) (start count : ℕ) → start ≡ min held longest → count ≡ min (length part) (longest - start)
+      → more ≡ take count part → put_mid start (start + count - start) line more ≡ held_with line held part
+  part_stored part more start count s n e =
+      let room = longest - min held longest in
+      let k : more ≡ take room part = e ∙ rw (n, s) (taken_min part room) in
+      let size_more = length-take room part in
+      let fits : min held longest + length (take room part) ≤ length line = omega arith in
+      let w : start + count - start ≡ length (take room part) = omega arith in
+      rw (k, w, s) (part_back (take room part) line (min held longest) _ refl fits)
+
   -- a part is held
   pub part_holds : (part : List ℕ) (r : ℕ) (line_next : List ℕ)
       → r ≡ min held longest + min (length part) (longest - min held longest) → line_next ≡ held_with line held part
@@ -216,12 +242,13 @@ module _ (line : List ℕ) (held : ℕ) (size : length line ≡ longest) where
       let fits : min held longest + length more ≤ length line = omega (arith, length-take room part) in
       record {
         count = rw grown (sym count);
+        room = omega (arith, e);
         kept = k;
         whole = rw (grown, k, sets-eq more line (min held longest) fits, held_min) (take_at (take held line ++ more) _ r count);
       }
 
   -- where the machine stands when the part has no line feed, and when it has one
-  module _ (stage : Stage) (piece : List ℕ) (from end : ℕ) (p : LinePart piece from end) where
+  module _ (stage : Stage) (piece : List ℕ) (from end : ℕ) (inside : from ≤ length piece) (at_end : end ≡ end_from piece from) where
     pub fed_held : end ≡ length piece
         → fed (reading stage (take held line) []) (part_to piece from end) ≡ reading stage (held_to line held piece from end) []
     fed_held e =
@@ -239,8 +266,9 @@ module _ (line : List ℕ) (held : ℕ) (size : length line ≡ longest) where
         rw (n, m) (rw held_all at (part_ended t (take held line) stage [] (omega (arith, length-drop from piece))))
 
 pub holds_stands : (stage : KeptStage) (held r : ℕ) (line part table out line_next : List ℕ) → Holds line held part r line_next
-    → Stands (reading (stage_of stage table) (take longest (take held line ++ part)) []) (Reading stage r) 0 table out line_next table out
-unfolding kept_feed records_of written_by going_on machine_of
+    → Stands (reading (stage_of stage table) (take longest (take held line ++ part)) []) 0 table out
+    (record { feed = Reading stage r; line = line_next; table = table }) out
+unfolding kept_feed records_of written_by going_on machine_at
 holds_stands stage held r line part table out line_next h =
     record {
       feed_is = rw (run_is stage table, ← h.count);
@@ -251,67 +279,98 @@ holds_stands stage held r line part table out line_next h =
       goes_on = rw h.whole;
     }
 
-stopped_stands : (part line table out : List ℕ)
-    → Stands (fed (machine_of Stopped line table) part) Stopped 0 table out line table out
-unfolding kept_feed records_of written_by going_on machine_of
-stopped_stands part line table out =
-    rw (fed_stopped [] part)
-    (record { feed_is = refl; written_is = refl; short = omega arith; records = refl; text = refl; goes_on = refl })
+-- a part of a piece is fed, from a place that may lie behind it: to a run that is stopped, to one that holds all of it, and to one whose
+-- line is at its end there
+module _ (run : Run) (piece : List ℕ) (at : ℕ) (out : List ℕ) (from end next : ℕ) where
+  pub feeds_stopped : from ≡ place_in piece at → end ≡ end_from piece from → next ≡ next_of piece end → run.feed ≡ Stopped
+      → Feeds run piece at out (record { next = next; written = 0 }) run out
+  unfolding line_after kept_feed records_of written_by going_on machine_at
+  feeds_stopped p e n s =
+      let q : end ≡ line_end piece at = e ∙ rw p in
+      record {
+        next = rw (← q) n;
+        held = rw s refl;
+        stands = rw (s, fed_stopped [] (part_from piece at))
+            (record { feed_is = refl; written_is = refl; short = omega arith; records = refl; text = refl; goes_on = refl });
+      }
 
--- a part of a piece is fed, from a place that may lie behind it
-pub feeds_reading : (stage : KeptStage) (held at from end next : ℕ) (piece line table out line_next table_next out_next : List ℕ)
-    (feed : Feed) (written : ℕ) → from ≡ place_in piece at → end ≡ end_from piece from → next ≡ next_of piece end
-    → FeedsPart stage held piece from end line table out feed written line_next table_next out_next
-    → Feeds (Reading stage held) piece at line table out (record { feed = feed; next = next; written = written }) line_next table_next
-    out_next
-unfolding line_after
-feeds_reading stage held at from end next piece line table out line_next table_next out_next feed written p e n f =
-    let q : end ≡ line_end piece at = e ∙ rw p in
-    record { next = rw (← q) n; held = rw (← q, ← p) f.held_is; stands = rw (← q, ← p) f.stands }
+  module _ (stage : KeptStage) (held count : ℕ) (line_next : List ℕ) (size : length run.line ≡ longest) where
+    pub feeds_held : from ≡ place_in piece at → end ≡ end_from piece from → next ≡ next_of piece end → run.feed ≡ Reading stage held
+        → Holds run.line held (take (end - from) (drop from piece)) count line_next → end ≡ length piece
+        → Feeds run piece at out (record { next = next; written = 0 })
+        (record { feed = Reading stage count; line = line_next; table = run.table }) out
+    unfolding line_after machine_at
+    feeds_held p e n s h z =
+        let q : end ≡ line_end piece at = e ∙ rw p in
+        let run_stage = stage_of stage run.table in
+        record {
+          next = rw (← q) n;
+          held = rw (s, ← q, ← p) h.kept;
+          stands = rw (s, ← q, ← p, fed_held run.line held size run_stage piece from end (omega arith) e z)
+              (holds_stands stage held count run.line _ run.table out line_next h);
+        }
 
-pub feeds_stopped : (at from end next : ℕ) (piece line table out : List ℕ)
-    → from ≡ place_in piece at → end ≡ end_from piece from → next ≡ next_of piece end
-    → Feeds Stopped piece at line table out (record { feed = Stopped; next = next; written = 0 }) line table out
-unfolding line_after
-feeds_stopped at from end next piece line table out p e n =
-    let q : end ≡ line_end piece at = e ∙ rw p in
-    record { next = rw (← q) n; held = refl; stands = stopped_stands (part_from piece at) line table out }
+    pub feeds_ended : (r : Ended) (table_next out_next : List ℕ)
+        → from ≡ place_in piece at → end ≡ end_from piece from → next ≡ next_of piece end → run.feed ≡ Reading stage held
+        → Holds run.line held (take (end - from) (drop from piece)) count line_next → end < length piece
+        → Ends (ended (stage_of stage run.table) (take count line_next) []) run.table out r table_next out_next
+        → Feeds run piece at out (record { next = next; written = r.written })
+        (record { feed = r.feed; line = line_next; table = table_next }) out_next
+    unfolding line_after machine_at
+    feeds_ended r table_next out_next p e n s h l t =
+        let q : end ≡ line_end piece at = e ∙ rw p in
+        let run_stage = stage_of stage run.table in
+        record {
+          next = rw (← q) n;
+          held = rw (s, ← q, ← p) h.kept;
+          stands = rw (s, ← q, ← p, fed_ended run.line held size run_stage piece from end (omega arith) e l) (rw h.whole at t line_next);
+        }
 
 -- what is written where no more lines come
 missing_is : (stage : KeptStage) (table : List ℕ) → at_end (line_of (stage_of stage table)) (stage_of stage table) ≡ missing stage
-unfolding missing stage_of at_end line_of
+unfolding stage_of at_end line_of
 missing_is AtHeader table = refl
 missing_is (AtStart h) table = refl
 missing_is (AtBeat h beat) table = refl
 
 missing_kept : (stage : Stage) → missing (kept_of stage) ≡ at_end (line_of stage) stage
-unfolding missing kept_of at_end line_of
+unfolding kept_of at_end line_of
 missing_kept at_header = refl
 missing_kept (at_start h) = refl
 missing_kept (at_beat h beat table) = refl
 
-missing_short : (stage : KeptStage) → length (missing stage) ≤ 15
-unfolding missing
+pub missing_short : (stage : KeptStage) → length (missing stage) ≤ 15
 missing_short AtHeader = omega (arith, refusal_length 1 10)
 missing_short (AtStart h) = omega (arith, refusal_length 2 10)
 missing_short (AtBeat h beat) = omega arith
 
 -- no character of the last line is held
-pub finishes_none : (stage : KeptStage) (held : ℕ) (line table out : List ℕ) (r : ℕ) (out_next : List ℕ) → held ≡ 0
-    → r ≡ length (missing stage) → out_next ≡ sets out 0 (missing stage)
-    → Finishes (machine_of (Reading stage held) line table) table out r table out_next
-unfolding machine_of finished last_fed all_written records_of
-finishes_none stage held line table out r out_next e w o =
+pub finishes_none : (run : Run) (stage : KeptStage) (held count : ℕ) (out : List ℕ) (r : ℕ) (out_next : List ℕ)
+    → length run.line ≡ longest → run.feed ≡ Reading stage held → count ≡ min held longest → eqb (length (take count run.line)) 0 ≡ true
+    → r ≡ length (missing stage) → out_next ≡ sets out 0 (missing stage) → Finishes run out r run out_next
+unfolding machine_at finished last_fed all_written records_of
+finishes_none run stage held count out r out_next size e n z w o =
+    let none : held ≡ 0 = omega (arith, eqb-true (length (take count run.line)) 0 z, length-take count run.line) in
     record {
-      written = rw (e, missing_is stage table) w;
+      written = rw (e, none, missing_is stage run.table) w;
       short = omega (arith, w, missing_short stage);
-      records = rw e (sym (records_stay stage table));
-      text = rw (e, missing_is stage table) o;
+      feed_stays = refl;
+      line_stays = refl;
+      records = rw (e, none) (sym (records_stay stage run.table));
+      text = rw (e, none, missing_is stage run.table) o;
     }
 
-pub finishes_stopped : (line table out : List ℕ) → Finishes (machine_of Stopped line table) table out 0 table out
-unfolding machine_of finished last_fed all_written records_of
-finishes_stopped line table out = record { written = refl; short = omega arith; records = refl; text = refl }
+pub finishes_stopped : (run : Run) (out : List ℕ) → run.feed ≡ Stopped → Finishes run out 0 run out
+unfolding machine_at finished last_fed all_written records_of
+finishes_stopped run out e =
+    record {
+      written = rw e refl;
+      short = omega arith;
+      feed_stays = refl;
+      line_stays = refl;
+      records = rw e refl;
+      text = rw e refl;
+    }
 
 -- some are: the line is at its end
 last_is : (stage : Stage) (held written : List ℕ) → 0 < length held → last_fed (reading stage held written) ≡ ended stage held written
@@ -319,48 +378,62 @@ unfolding last_fed
 last_is stage [] written l = absurd (omega arith)
 last_is stage (ch ∷ held) written l = refl
 
-pub finished_is : (stage : KeptStage) (held : ℕ) (line table : List ℕ) → length line ≡ longest → 0 < held
-    → last_fed (machine_of (Reading stage held) line table) ≡ ended (stage_of stage table) (take held line) []
-unfolding machine_of
-finished_is stage held line table size l =
-    last_is (stage_of stage table) (take held line) [] (omega (arith, held_length line held size))
+pub finished_is : (run : Run) (stage : KeptStage) (held count : ℕ) → length run.line ≡ longest → run.feed ≡ Reading stage held
+    → count ≡ min held longest → eqb (length (take count run.line)) 0 ≡ false
+    → last_fed (machine_of run) ≡ ended (stage_of stage run.table) (take count run.line) []
+unfolding machine_at
+finished_is run stage held count size e n z =
+    let some = eqb-false (length (take count run.line)) 0 z in
+    let more : 0 < held = omega (arith, some, length-take count run.line) in
+    rw (e, n, held_min run.line held size)
+    (last_is (stage_of stage run.table) (take held run.line) [] (omega (arith, held_length run.line held size)))
 
 -- nothing more is written after a refusal
-pub finishes_refused : (m last : Machine) (table out line_next table_next out_next : List ℕ) (feed : Feed) (written : ℕ)
-    → last_fed m ≡ last → feed ≡ Stopped → Stands last feed written table out line_next table_next out_next
-    → Finishes m table out written table_next out_next
+pub finishes_refused : (run : Run) (last : Machine) (out : List ℕ) (r : Ended) (table_next out_next : List ℕ)
+    → last_fed (machine_of run) ≡ last → r.feed ≡ Stopped → Ends last run.table out r table_next out_next
+    → Finishes run out r.written (record run { table = table_next }) out_next
 unfolding finished all_written kept_feed written_by
-finishes_refused m (reading stage held text) table out line_next table_next out_next feed written e k s =
-    let y : Reading (kept_of stage) (length held) ≡ Stopped = sym s.feed_is ∙ k in
+finishes_refused run (reading stage held text) out r table_next out_next e k s =
+    let y : Reading (kept_of stage) (length held) ≡ Stopped = sym (s []).feed_is ∙ k in
     let z : ◌≡◌ {A = ℕ} 0 1 = cc in
     absurd (omega arith)
-finishes_refused m (stopped text) table out line_next table_next out_next feed written e k s =
-    record { written = rw e s.written_is; short = s.short; records = rw e s.records; text = rw e s.text }
+finishes_refused run (stopped text) out r table_next out_next e k s =
+    let t = s run.line in
+    record {
+      written = rw e t.written_is;
+      short = t.short;
+      feed_stays = refl;
+      line_stays = refl;
+      records = rw e t.records;
+      text = rw e t.text;
+    }
 
 -- after an accepted last line either it or the missing one is written
-pub finishes_accepted : (m last : Machine) (table out line_next table_next out_next out_last : List ℕ)
-    (feed : Feed) (next : KeptStage) (held written more : ℕ)
-    → last_fed m ≡ last → feed ≡ Reading next held → (written_by last ≡ []) ⊎ (missing next ≡ [])
-    → Stands last feed written table out line_next table_next out_next
-    → more ≡ length (missing next) → out_last ≡ sets out_next 0 (missing next)
-    → Finishes m table out (written + more) table_next out_last
+pub finishes_accepted : (run : Run) (last : Machine) (out : List ℕ) (r : Ended) (table_next out_next out_last : List ℕ)
+    (next : KeptStage) (held more : ℕ)
+    → last_fed (machine_of run) ≡ last → r.feed ≡ Reading next held → (written_by last ≡ []) ⊎ (missing next ≡ [])
+    → Ends last run.table out r table_next out_next → more ≡ length (missing next) → out_last ≡ sets out_next 0 (missing next)
+    → Finishes run out (r.written + more) (record run { table = table_next }) out_last
 unfolding finished all_written kept_feed written_by
-finishes_accepted m (stopped text) table out line_next table_next out_next out_last feed next held written more e k one s w o =
-    let y : Stopped ≡ Reading next held = sym s.feed_is ∙ k in
+finishes_accepted run (stopped text) out r table_next out_next out_last next held more e k one s w o =
+    let y : Stopped ≡ Reading next held = sym (s []).feed_is ∙ k in
     let z : ◌≡◌ {A = ℕ} 0 1 = cc in
     absurd (omega arith)
-finishes_accepted m (reading stage kept text) table out line_next table_next out_next out_last feed next held written more e k one s w o =
-    let y : Reading (kept_of stage) (length kept) ≡ Reading next held = sym s.feed_is ∙ k in
+finishes_accepted run (reading stage kept text) out r table_next out_next out_last next held more e k one s w o =
+    let t = s run.line in
+    let y : Reading (kept_of stage) (length kept) ≡ Reading next held = sym t.feed_is ∙ k in
     let n : kept_of stage ≡ next = cc in
     let q : at_end (line_of stage) stage ≡ missing next = sym (missing_kept stage) ∙ ap missing n in
     record {
-      written = rw (e, q) (omega (arith, s.written_is, length-append text (missing next)));
+      written = rw (e, q) (omega (arith, t.written_is, length-append text (missing next)));
       short = ⊎_elim
-          (λ (p : text ≡ []). let z : written ≡ 0 = s.written_is ∙ ap length p in omega (arith, missing_short next))
-          (λ (p : missing next ≡ []). let z : more ≡ 0 = w ∙ ap length p in omega (arith, s.short))
+          (λ (p : text ≡ []). let z : r.written ≡ 0 = t.written_is ∙ ap length p in omega (arith, missing_short next))
+          (λ (p : missing next ≡ []). let z : more ≡ 0 = w ∙ ap length p in omega (arith, t.short))
           one;
-      records = rw e s.records;
-      text = rw (e, q) (o ∙ rw s.text (both text (missing next) one));
+      feed_stays = refl;
+      line_stays = refl;
+      records = rw e t.records;
+      text = rw (e, q) (o ∙ rw t.text (both text (missing next) one));
     }
   where
     both : (a b : List ℕ) → (a ≡ []) ⊎ (b ≡ []) → sets (sets out 0 a) 0 b ≡ sets out 0 (a ++ b)
@@ -369,7 +442,7 @@ finishes_accepted m (reading stage kept text) table out line_next table_next out
 
 line_one : (stage next : Stage) (line text : List ℕ) → take_line stage line ≡ accepted next text
     → (text ≡ []) ⊎ (missing (kept_of next) ≡ [])
-unfolding take_line kept_of missing
+unfolding take_line kept_of
 line_one at_header next line text e = inl (sym (unrefused_text (header_refusal line) _ next _ text e))
 line_one (at_start h) next line text e = inr (rw (← (unrefused (start_line_refusal h line) _ next _ text e).1))
 line_one (at_beat h beat table) next line text e = inr (rw (← (unrefused (beat_line_refusal h beat line) _ next _ text e).1))

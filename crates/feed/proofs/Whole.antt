@@ -16,10 +16,11 @@ use Rattle.runfile.specs.Runs.{stage_of, taken_line}
 use Rattle.runfile.proofs.Stores.{first_taken}
 use Rattle.feed.specs.declared.Feed.{Feed}
 use Rattle.feed.specs.declared.Feed.TheVariants.{Reading, Stopped}
+use Rattle.feed.specs.declared.Run.{Run}
 use Rattle.feed.specs.declared.Fed.{Fed}
 use Rattle.feed.specs.Feeds.{Machine, reading, stopped, line_of, after_line, ended, fed_byte, fed, last_fed, all_written}
 use Rattle.feed.specs.Feeds.{finished, start, joined}
-use Rattle.feed.specs.Calls.{machine_of, written_by, going_on, place_in, next_of, line_end, part_from, most_written, Feeds}
+use Rattle.feed.specs.Calls.{machine_at, machine_of, written_by, going_on, place_in, next_of, line_end, part_from, most_written, Feeds}
 use Rattle.feed.specs.Calls.{CallsWrite, feeds, turns, leaves, finishes, FeedsAll, Reached}
 use Rattle.feed.proofs.Pieces.{fed_append, fed_stopped, fed_all, nothing_fed}
 
@@ -79,9 +80,9 @@ one_part feed part rest =
     ∙ sym (fed_append feed part rest))
 
 -- where the calls start
-starts : (line table : List ℕ) → machine_of (Reading AtHeader 0) line table ≡ start
-unfolding machine_of stage_of
-starts line table = refl
+starts : (run : Run) → run.feed ≡ Reading AtHeader 0 → machine_of run ≡ start
+unfolding machine_at stage_of
+starts run e = rw e refl
 
 -- a place behind a piece counts as its end
 drop_place : (piece : List ℕ) (at : ℕ) → drop (place_in piece at) piece ≡ drop at piece
@@ -112,9 +113,9 @@ all_left [] = refl
 all_left (piece ∷ others) = refl
 
 -- a stopped run writes nothing, whatever comes
-still_stopped : (line table text : List ℕ) → fed (machine_of Stopped line table) text ≡ machine_of Stopped line table
-unfolding machine_of
-still_stopped line table text = fed_stopped [] text
+still_stopped : (run : Run) (text : List ℕ) → run.feed ≡ Stopped → fed (machine_of run) text ≡ machine_of run
+unfolding machine_at
+still_stopped run text e = rw e (fed_stopped [] text)
 
 -- what a call writes stands in its buffer
 text_in_lem : (out out_next text : List ℕ) (written : ℕ) → length out ≡ most_written → written ≡ length text → written ≤ most_written
@@ -122,13 +123,11 @@ text_in_lem : (out out_next text : List ℕ) (written : ℕ) → length out ≡ 
 text_in_lem out out_next text written size e short o = rw o (first_taken out text written (sym e) (omega arith))
 
 -- the calls to the end of the input write what the machine does that is fed all that is left
-calls_whole : {feed : Feed} {line table : List ℕ} {at : ℕ} {pieces : List (List ℕ)} {text : List ℕ}
-    → CallsWrite feed line table at pieces text → text ≡ finished (fed (machine_of feed line table) (left_of at pieces))
+calls_whole : {run : Run} {at : ℕ} {pieces : List (List ℕ)} {text : List ℕ}
+    → CallsWrite run at pieces text → text ≡ finished (fed (machine_of run) (left_of at pieces))
 unfolding left_of
-calls_whole
-    (feeds {feed = feed} {piece = piece} {line = line} {table = table} {out = out} {out_next = out_next} {at = at} {others = others}
-    {r = r} size f later) =
-    let m = machine_of feed line table in
+calls_whole (feeds {run = run} {piece = piece} {out = out} {out_next = out_next} {at = at} {others = others} {r = r} size f later) =
+    let m = machine_of run in
     let part = part_from piece at in
     let s = f.stands in
     let text = text_in_lem out out_next (written_by (fed m part)) r.written size s.written_is s.short s.text in
@@ -136,16 +135,16 @@ calls_whole
     (one_part m part (drop (next_of piece (line_end piece at)) piece ++ joined others) ∙ rw (← append_assoc, part_and_rest piece at))
 calls_whole (turns {piece = piece} {at = at} {others = others} l later) =
     calls_whole later ∙ rw (all_left others, drop_of_length-le piece {i = at} l)
-calls_whole (leaves {line = line} {table = table} {at = at} {pieces = pieces} later) =
-    calls_whole later ∙ rw (still_stopped line table (left_of 0 []), still_stopped line table (left_of at pieces))
-calls_whole (finishes {feed = feed} {line = line} {table = table} {out = out} size f) =
-    rw (nothing_fed (machine_of feed line table)) (text_in_lem out _ _ _ size f.written f.short f.text)
+calls_whole (leaves {run = run} {at = at} {pieces = pieces} e later) =
+    calls_whole later ∙ rw (still_stopped run (left_of 0 []) e, still_stopped run (left_of at pieces) e)
+calls_whole (finishes {run = run} {out = out} size f) =
+    rw (nothing_fed (machine_of run)) (text_in_lem out _ _ _ size f.written f.short f.text)
 
--- The calls on the pieces of a text, cut anywhere, write what the rules say of the whole text: from what `start` answers on, with
--- buffers that hold anything.
-pub calls_run : (line table : List ℕ) (pieces : List (List ℕ)) (text : List ℕ)
-    → CallsWrite (Reading AtHeader 0) line table 0 pieces text → text ≡ run_text (joined pieces)
-calls_run line table pieces text calls = calls_whole calls ∙ rw (starts line table, all_left pieces) (fed_all (joined pieces))
+-- The calls on the pieces of a text, cut anywhere, write what the rules say of the whole text: from a run on whose feed is what `new`
+-- answers, with buffers that hold anything.
+pub calls_run : (run : Run) (pieces : List (List ℕ)) (text : List ℕ) → run.feed ≡ Reading AtHeader 0
+    → CallsWrite run 0 pieces text → text ≡ run_text (joined pieces)
+calls_run run pieces text e calls = calls_whole calls ∙ rw (starts run e, all_left pieces) (fed_all (joined pieces))
 
 -- what was written before changes nothing of where a text leads
 goes_wrote : (before : List ℕ) (feed : Machine) → going_on (wrote before feed) ≡ going_on feed
@@ -159,38 +158,40 @@ goes_fed feed text =
     ∙ ap going_on (sym (fed_wrote (written_by feed) (going_on feed) text) ∙ ap (λ (f : Machine). fed f text) (written_before feed))
 
 -- what a call leaves of a piece leads from there to where the piece leads from the call's place on
-pub part_fed : (feed : Feed) (piece : List ℕ) (at : ℕ) (line table out : List ℕ) (r : Fed) (line_next table_next out_next : List ℕ)
-    → Feeds feed piece at line table out r line_next table_next out_next
-    → going_on (fed (machine_of r.feed line_next table_next) (drop r.next piece))
-    ≡ going_on (fed (machine_of feed line table) (drop at piece))
-part_fed feed piece at line table out r line_next table_next out_next f =
-    let m = machine_of feed line table in
+pub part_fed : (run : Run) (piece : List ℕ) (at : ℕ) (out : List ℕ) (r : Fed) (run_next : Run) (out_next : List ℕ)
+    → Feeds run piece at out r run_next out_next
+    → going_on (fed (machine_of run_next) (drop r.next piece)) ≡ going_on (fed (machine_of run) (drop at piece))
+part_fed run piece at out r run_next out_next f =
+    let m = machine_of run in
     let part = part_from piece at in
     let rest = drop (next_of piece (line_end piece at)) piece in
     rw (f.next, f.stands.goes_on)
     (goes_fed (fed m part) rest ∙ ap going_on (sym (fed_append m part rest) ∙ rw (part_and_rest piece at)))
 
+-- what was written is no longer known of a run
+goes_on_is : (feed : Feed) (line table : List ℕ) → going_on (machine_at feed line table) ≡ machine_at feed line table
+unfolding machine_at going_on
+goes_on_is (Reading stage held) line table = refl
+goes_on_is Stopped line table = refl
+
 -- and at the piece's end nothing is left of it
-pub all_fed : (feed : Feed) (piece : List ℕ) (at : ℕ) (line table : List ℕ) → length piece ≤ at
-    → going_on (fed (machine_of feed line table) (drop at piece)) ≡ machine_of feed line table
-unfolding machine_of going_on
-all_fed (Reading stage held) piece at line table l =
-    rw (drop_of_length-le piece {i = at} l, nothing_fed (reading (stage_of stage table) (take held line) []))
-all_fed Stopped piece at line table l = rw (fed_stopped [] (drop at piece))
+pub all_fed : (run : Run) (piece : List ℕ) (at : ℕ) → length piece ≤ at
+    → going_on (fed (machine_of run) (drop at piece)) ≡ machine_of run
+all_fed run piece at l =
+    rw (drop_of_length-le piece {i = at} l, nothing_fed (machine_of run)) (goes_on_is run.feed run.line run.table)
 
 -- the start is reached by no piece, and from any run that is reached one piece more leads to another
-pub reached_start : (feed : Feed) (line table : List ℕ) → feed ≡ Reading AtHeader 0 → Reached feed line table
+pub reached_start : (run : Run) → run.feed ≡ Reading AtHeader 0 → Reached run
 unfolding fed joined going_on
-reached_start feed line table e = record { pieces = []; led = rw (e, starts line table) }
+reached_start run e = record { pieces = []; led = starts run e }
 
 joined_more : (pieces : List (List ℕ)) (piece : List ℕ) → joined (pieces ++ (piece ∷ [])) ≡ joined pieces ++ piece
 unfolding joined
 joined_more [] piece = append-nil piece
 joined_more (first ∷ others) piece = rw (joined_more others piece, append_assoc first (joined others) piece)
 
-pub reached_more : (feed feed_next : Feed) (piece line table line_next table_next : List ℕ) → Reached feed line table
-    → FeedsAll feed piece line table feed_next line_next table_next → Reached feed_next line_next table_next
-reached_more feed feed_next piece line table line_next table_next reached all =
+pub reached_more : (run run_next : Run) (piece : List ℕ) → Reached run → FeedsAll run piece run_next → Reached run_next
+reached_more run run_next piece reached all =
     let before = joined reached.pieces in
     record {
       pieces = reached.pieces ++ (piece ∷ []);
