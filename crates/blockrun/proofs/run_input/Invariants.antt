@@ -3,4 +3,4 @@ use Rattle.feed.specs.Calls.{Reached}
 use Rattle.blockrun.proofs.run_input.Given as goal
 
 abbrev pub invariant-loop : goal.invariant-loop
-invariant-loop l = Reached l.ran.feed l.line l.table
+invariant-loop l = Reached l.run

@@ -5,9 +5,7 @@ use Rattle.feed.specs.Calls.{machine_of, going_on}
 use Rattle.blockrun.proofs.run_piece.Given as goal
 
 abbrev pub invariant-loop-at : goal.invariant-loop-at
-invariant-loop-at l =
-    going_on (fed (machine_of l.state l.line l.table) (drop l.at l.piece))
-    ≡ going_on (fed (machine_of l.fn.before l.fn.line l.fn.table) l.piece)
+invariant-loop-at l = going_on (fed (machine_of l.run) (drop l.at l.piece)) ≡ going_on (fed (machine_of l.fn.run) l.piece)
 
 abbrev pub decreases-loop-at : goal.decreases-loop-at
 decreases-loop-at l = length l.piece - l.at
