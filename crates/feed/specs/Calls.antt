@@ -120,8 +120,8 @@ pub record Finishes (run : Run) (out : List ℕ) (r : ℕ) (run_next : Run) (out
 
 -- What the calls on pieces write, as their contracts have it: the calls that a caller makes from some point on, to the end of the
 -- input. It holds `run`, as the last call left it. What is left of the input is `pieces`, the first of them from its place `at` on. A call
--- is lent a buffer `out`, and writes as much of it as it returns; the next call takes its place, and the run as it left it. `text` is
--- all that is written, put together.
+-- is lent a buffer `out`, and writes as much of it as it returns; the next call goes on from the place that it returns, with the run as
+-- it left it. `text` is all that is written, put together.
 pub data CallsWrite : (run : Run) (at : ℕ) (pieces : List (List ℕ)) (text : List ℕ) → Type 0 where
   -- `feed_from` on the first piece, from the place on
   feeds : {run run_next : Run} {piece out out_next text : List ℕ} {at : ℕ} {others : List (List ℕ)} {r : Fed}
