@@ -1,5 +1,5 @@
 -- The whole beat is not refused, and its table is copied.
-use mathlib.Core.Path.{sym, ◌∙◌}
+use mathlib.Core.Path.{◌≡◌, sym, ◌∙◌}
 use native.Mathlib.Omega.{arith}
 use lib.Seq.{length-take-le}
 use Rattle.frames.specs.Headers.{said}
@@ -42,5 +42,6 @@ returns c =
     let small = start_most (said a.rack) c.requires.0.passes in
     let d = beat_done a.rack table a.sent.now _ _ words c.requires.0 c.start_words-words.ensures c.requires.1
     (omega (arith, c.start_words-words.ensures)) c.beat.ensures.1 in
-    rw c.copy_from_slice.ensures.after
+    let copied : c.copy_from_slice.new.self ≡ c.beat.new.out = c.copy_from_slice.ensures.after in
+    rw copied
     (prefix_stored table c.beat.new.out words d.1 (omega (arith, c.start_words-words.ensures, c.requires.0.room)) ∙ rw d.0)
