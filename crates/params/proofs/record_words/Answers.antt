@@ -1,15 +1,13 @@
 -- `params::record_words` meets its contract: the leading zeros of a number below 2 ^ k and its binary digits make k.
-use borrow.Author.Rules.{rules}
 use mathlib.Core.Path.{◌≡◌, ap, ◌∙◌}
 use Prim.Native.Nat.{ℕ, zero, suc, ◌+◌, ◌^◌, ◌/◌, ◌≤◌, ◌<◌}
 use native.Mathlib.Nat.{add-suc, pow-suc}
 use native.Mathlib.Omega.{arith}
 use lib.Arith.{half_le}
-use lib.Count.{count_leading_zeros, leading_le}
+use lib.Count.{count_leading_zeros}
 use Rattle.rules.specs.Parameters.{digits_in, binary_digits}
 use Rattle.rules.proofs.Digits.{no_digits}
-use Rattle.params.proofs.record_words.Statement.{statement}
-use Rattle.params.proofs.record_words.Tie as tie
+use Rattle.params.proofs.record_words.Goals as goal
 
 zeros_and_digits : (k m f : ℕ) → f ≤ m → f < 2 ^ k → count_leading_zeros k f + digits_in m f ≡ k
 unfolding count_leading_zeros digits_in
@@ -21,9 +19,6 @@ zeros_and_digits (suc k) (suc m) (suc f) l h =
     let half = suc f / 2 in
     add-suc (count_leading_zeros k half) (digits_in m half) ∙ ap suc (zeros_and_digits k m half (half_le l) (omega (arith, pow-suc 2 k)))
 
-returns : tie.Need-returns
+pub returns : goal.returns
 unfolding binary_digits
 returns c = omega (arith, zeros_and_digits 32 c.args.f c.args.f (omega arith) c.ranges.f.fits)
-
-pub record_words_spec : {M : Type 1} → statement M
-record_words_spec = tie.close (tie.spec (λ c. leading_le 32 c.args.f) (λ c. search rules) (λ c. search rules) returns)
