@@ -173,12 +173,12 @@ fn a_method_that_no_other_crate_calls() {
 #[test]
 fn a_call_by_a_name_that_a_list_brings_in() {
     let header = "crates/frames/src/header.rt";
-    let list = "use digits::{\n    well_formed,\n    words::{self, put_word as put}, // both\n    number_at,\n};\n";
+    let list = "use digits::{\n    well_formed,\n    words::{self, put_word as put}, // both\n    number_of,\n};\n";
     passes("listed-name", |copy| {
-        copy.replace(header, "use digits::{number_at, well_formed};\n", list);
+        copy.replace(header, "use digits::{number_of, well_formed};\n", list);
         copy.replace(
             "crates/frames/src/frame.rt",
-            "use digits::{number_at, well_formed};\n",
+            "use digits::{number_of, well_formed, words};\n",
             "use digits::well_formed;\n",
         );
         copy.replace(
