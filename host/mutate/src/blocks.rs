@@ -15,7 +15,7 @@ pub enum Braces {
     Fields,
 }
 
-/// Statements that cannot be left out: later ones need the name, or the function its answer.
+/// Statements that cannot be left out: later ones need the name (`_` is none), or the function its answer.
 const NEEDED: [&str; 3] = ["let", "const", "return"];
 
 const LOOPS: [&str; 3] = ["for", "while", "loop"];
@@ -33,15 +33,21 @@ impl Code<'_> {
         opens.map(|open| (open, sort(open))).collect()
     }
 
-    /// The brace after the head of each `if`, `while`, `for` and `match`: a head holds no struct that is made.
+    /// What is after the head of each `if`, `while`, `for` and `match`: a head holds no struct that is made.
     fn heads(&self, body: &Range<usize>) -> HashMap<usize, &str> {
         let mut heads = HashMap::new();
         for place in body.clone() {
             if let word @ ("if" | "while" | "for" | "match") = self.at(place) {
-                heads.extend(self.find(place, body.end, &["{"]).map(|open| (open, word)));
+                heads.extend(self.head(place, body.end).map(|head| (head.end, word)));
             }
         }
         heads
+    }
+
+    /// What is between such a word and its block, or the arrow of the arm that an `if` guards.
+    pub fn head(&self, word: usize, to: usize) -> Option<Range<usize>> {
+        let end = self.find(word, to, &["{", "=>"]);
+        end.map(|end| word + 1..end)
     }
 
     /// The statements of all blocks of a body, block by block.
@@ -97,12 +103,17 @@ impl Code<'_> {
         let first = self.at(statement.start);
         let last_in_block = self.at(statement.end) == "}" && self.at(statement.end - 1) != ";";
         let gives_nothing = LOOPS.contains(&first) || first == "if" && !self.has_else(statement);
-        !NEEDED.contains(&first) && (gives_nothing || !last_in_block)
+        let needed = NEEDED.contains(&first) && self.at(statement.start + 1) != "_";
+        !needed && (gives_nothing || !last_in_block)
     }
 
-    /// Is it `if .. { ..; return ..; }`?
+    /// Is it `if .. { ..; return ..; }`, or `..?;`?
     pub fn is_guard(&self, statement: &Range<usize>) -> bool {
-        if self.at(statement.start) != "if" || self.has_else(statement) {
+        let first = self.at(statement.start);
+        if first != "if" {
+            return !NEEDED.contains(&first) && self.at(statement.end - 2) == "?";
+        }
+        if self.has_else(statement) {
             return false;
         }
         let block = self.find(statement.start, statement.end, &["{"]);

@@ -83,11 +83,16 @@ impl<'a> Code<'a> {
         match found.sort {
             Sort::Word => !KEYWORDS.contains(&found.text),
             Sort::Number | Sort::Quoted => true,
-            Sort::Sign => [")", "]"].contains(&found.text),
+            Sort::Sign => [")", "]", "?"].contains(&found.text) || self.closes_generics(token),
         }
     }
 
-    /// Does the token name what the bracket after it belongs to: a call, an index, a struct's fields?
+    /// Is it the last sign of `::<..>`, and so no comparison?
+    pub fn closes_generics(&self, token: usize) -> bool {
+        self.at(token) == ">" && self.partner[token] != token
+    }
+
+    /// Does the token name the struct whose fields are in the bracket after it?
     pub fn names(&self, token: usize) -> bool {
         self.tokens[token].sort == Sort::Word && self.ends_value(token)
     }
@@ -125,13 +130,31 @@ impl<'a> Code<'a> {
         if self.at(open) == ";" {
             return None;
         }
-        let arrow = self.find(at, open, &["->"]);
-        let returns = arrow.map_or("", |arrow| self.text_of(&(arrow + 1..arrow + 2)));
+        let parameters = self.parameters(at, open)?;
+        let arrow = self.find(parameters, open, &["->"]);
+        let returns = arrow.map_or("", |arrow| self.text_of(&(arrow + 1..open)));
         Some(Part {
             name: self.at(at + 1),
             sort: PartSort::Function(returns),
             range: open..self.closing(open) + 1,
         })
+    }
+
+    /// The bracket of a function's parameters, which is in no angle brackets: `fn f<T: Fn(u8) -> u8>(test: T)`.
+    fn parameters(&self, from: usize, to: usize) -> Option<usize> {
+        let mut depth = 0;
+        let mut at = from;
+        while at < to {
+            match self.at(at) {
+                "<" => depth += 1,
+                ">" => depth -= 1,
+                ">>" => depth -= 2,
+                "(" if depth == 0 => return Some(at),
+                _ => {}
+            }
+            at = self.after(at);
+        }
+        None
     }
 
     fn constant(&self, at: usize) -> Option<Part<'a>> {
@@ -149,9 +172,11 @@ fn partners(tokens: &[Token<'_>]) -> Vec<usize> {
     let mut partner: Vec<usize> = (0..tokens.len()).collect();
     let mut open = Vec::new();
     for (place, token) in tokens.iter().enumerate() {
+        let innermost = open.last().map_or("", |start: &usize| tokens[*start].text);
         match token.text {
-            "(" | "[" | "{" => open.push(place),
-            ")" | "]" | "}" => {
+            "(" | "[" | "{" | "::<" => open.push(place),
+            ">" if innermost != "::<" => {}
+            ")" | "]" | "}" | ">" => {
                 if let Some(start) = open.pop() {
                     partner[start] = place;
                     partner[place] = start;

@@ -4,7 +4,7 @@ mod conditions;
 mod constants;
 mod operators;
 mod order;
-mod refusals;
+pub mod refusals;
 mod returns;
 mod statements;
 
@@ -30,9 +30,9 @@ pub static KINDS: [Kind; 11] = [
     Kind::new("arithmetic", 2, operators::arithmetic),
     Kind::new("boolean", 1, operators::booleans),
     Kind::new("constant", 5, constants::off_by_one),
-    Kind::new("refusal", 1, refusals::other_number),
-    Kind::new("arguments", 5, order::arguments),
+    Kind::new("refusal", 1, refusals::other_reason),
     Kind::new("indices", 1, order::indices),
+    Kind::new("arguments", 5, order::arguments),
     Kind::new("guards", 1, statements::swapped_guards),
     Kind::new("dropped", 2, statements::dropped),
     Kind::new("return", 3, returns::at_once),

@@ -1,5 +1,5 @@
-//! The words and signs of Rattle source, with their places. Comments and the prover's text (contract clauses and
-//! `ghost use` items) have no tokens, so nothing that goes by tokens touches them.
+//! The words and signs of Rattle source, with their places. Comments, attributes and the prover's text (contract clauses
+//! and `ghost use` items) have no tokens, so nothing that goes by tokens touches them.
 
 #[derive(Clone, Copy, Debug, PartialEq, Eq)]
 pub enum Sort {
@@ -26,9 +26,9 @@ impl Token<'_> {
 const CLAUSES: [&str; 3] = ["requires", "ensures", "ghost"];
 
 /// The signs of more than one character, the longer ones first.
-const LONG_SIGNS: [&str; 23] = [
-    "<<=", ">>=", "..=", "<=", ">=", "==", "!=", "&&", "||", "<<", ">>", "+=", "-=", "*=", "/=",
-    "%=", "&=", "|=", "^=", "->", "=>", "::", "..",
+const LONG_SIGNS: [&str; 24] = [
+    "<<=", ">>=", "..=", "::<", "<=", ">=", "==", "!=", "&&", "||", "<<", ">>", "+=", "-=", "*=",
+    "/=", "%=", "&=", "|=", "^=", "->", "=>", "::", "..",
 ];
 
 pub fn tokens(source: &str) -> Vec<Token<'_>> {
@@ -40,7 +40,7 @@ pub fn tokens(source: &str) -> Vec<Token<'_>> {
             at += first.len_utf8();
             continue;
         }
-        if let Some(length) = comment(rest) {
+        if let Some(length) = comment(rest).or_else(|| attribute(rest)) {
             at += length;
             continue;
         }
@@ -66,6 +66,12 @@ fn comment(rest: &str) -> Option<usize> {
     } else {
         None
     }
+}
+
+/// The length of the attribute that the text begins with.
+fn attribute(rest: &str) -> Option<usize> {
+    let begins = ["#[", "#!["].iter().any(|start| rest.starts_with(start));
+    begins.then(|| bracketed(rest, b'[', b']'))
 }
 
 /// What the text begins with, and its length.
@@ -113,13 +119,19 @@ fn prover_text(rest: &str) -> usize {
     if rest.trim_start().starts_with("use ") {
         return rest.find(';').map_or(rest.len(), |end| end + 1);
     }
+    bracketed(rest, b'{', b'}')
+}
+
+/// The length up to the bracket that closes the first one.
+fn bracketed(rest: &str, open: u8, close: u8) -> usize {
     let mut depth = 0;
     for (place, letter) in rest.bytes().enumerate() {
-        match letter {
-            b'{' => depth += 1,
-            b'}' if depth == 1 => return place + 1,
-            b'}' => depth -= 1,
-            _ => {}
+        if letter == open {
+            depth += 1;
+        } else if letter == close && depth == 1 {
+            return place + 1;
+        } else if letter == close {
+            depth -= 1;
         }
     }
     rest.len()

@@ -1,10 +1,11 @@
 //! The mutants of the repository's own crates.
 
-use std::collections::HashSet;
+use std::collections::{HashMap, HashSet};
 use std::fs;
 
 use mutate::choice::Choice;
 use mutate::equivalents;
+use mutate::kinds::refusals::TABLE;
 use mutate::mutant::{mutants, Mutant};
 use mutate::report::unmatched;
 use mutate::repository::{libraries, root};
@@ -24,19 +25,53 @@ fn source_of(mutant: &Mutant) -> String {
     fs::read_to_string(root().join("crates").join(&mutant.file)).unwrap()
 }
 
-/// The lines that no mutant may touch: comments, contracts and what they cite.
+/// The lines that no mutant may touch: comments, attributes, declarations, and contracts to the brace of the body.
 fn kept(text: &str) -> Vec<&str> {
     let marks = [
         "//",
+        "#",
         "ghost ",
-        "requires ",
-        "ensures ",
         "use ",
+        "impl",
         "pub struct ",
         "pub enum ",
     ];
-    let marked = |line: &&str| marks.iter().any(|mark| line.trim_start().starts_with(mark));
-    text.lines().filter(marked).collect()
+    let mut in_contract = false;
+    let mut kept = Vec::new();
+    for line in text.lines() {
+        let starts = |mark: &&str| line.trim_start().starts_with(mark);
+        in_contract = ["requires ", "ensures "].iter().any(starts)
+            || in_contract && !line.trim_start().starts_with('{');
+        if in_contract || marks.iter().any(starts) {
+            kept.push(line);
+        }
+    }
+    kept
+}
+
+/// The names of the crate `rules` by their numbers.
+fn refusals_by_number() -> HashMap<String, String> {
+    let source = fs::read_to_string(root().join("crates/rules/src/lib.rt")).unwrap();
+    let (_, rest) = source.split_once("pub enum Refusal {").unwrap();
+    let (body, _) = rest.split_once('}').unwrap();
+    let named = body.split(',').filter_map(|item| item.split_once('='));
+    named
+        .map(|(name, number)| (number.trim().to_string(), name.trim().to_string()))
+        .collect()
+}
+
+/// The numbers of the table of RULES 9.1, row by row.
+fn numbers_of_table() -> Vec<String> {
+    let rules = fs::read_to_string(root().join("docs/RULES.md")).unwrap();
+    let section = rules
+        .lines()
+        .skip_while(|line| !line.starts_with("### 9.1 "));
+    let section = section.take_while(|line| !line.starts_with("### 9.2 "));
+    let cells = section.filter_map(|line| line.strip_prefix("| ")?.split(" |").next());
+    cells
+        .filter(|cell| cell.parse::<u8>().is_ok())
+        .map(String::from)
+        .collect()
 }
 
 fn one_line(text: &str) -> String {
@@ -117,6 +152,18 @@ fn comments_contracts_and_declarations_stay() {
             mutant.name()
         );
     }
+}
+
+#[test]
+fn refusals_have_the_crates_names_in_the_order_of_the_rules() {
+    let names = refusals_by_number();
+    let numbers = numbers_of_table();
+    let ordered: Vec<&str> = numbers
+        .iter()
+        .map(|number| names[number].as_str())
+        .collect();
+    assert_eq!(ordered, TABLE);
+    assert_eq!(names.len(), TABLE.len());
 }
 
 #[test]

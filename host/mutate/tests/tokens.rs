@@ -14,6 +14,7 @@ fn signs_are_read_as_long_as_they_are() {
         ["a", "<=", "b", "<<", "2", "..=", "c"]
     );
     assert_eq!(texts("x-=1;-y"), ["x", "-=", "1", ";", "-", "y"]);
+    assert_eq!(texts("f::<3>::g"), ["f", "::<", "3", ">", "::", "g"]);
 }
 
 #[test]
@@ -41,16 +42,20 @@ fn comments_have_no_tokens() {
 }
 
 #[test]
+fn attributes_have_no_tokens() {
+    let source = "#![tactic(auto)]\n#[f(a[1], 2 < 3)]\n#[inline(always)] fn f() {}";
+    assert_eq!(texts(source), ["fn", "f", "(", ")", "{", "}"]);
+}
+
+#[test]
 fn the_provers_text_has_no_tokens() {
-    let source = "#![tactic(auto)]
-        ghost use lib.{a, b}; fn f(x: u8) -> u8
+    let source = "ghost use lib.{a, b}; fn f(x: u8) -> u8
         ghost { ℕ }
         requires { x' {A = ℕ} < 3 }
         ensures low { result ≤ x }
         ensures high { OnOk result (x < 3) } { x }";
     let code = [
-        "#", "!", "[", "tactic", "(", "auto", ")", "]", "fn", "f", "(", "x", ":", "u8", ")", "->",
-        "u8", "{", "x", "}",
+        "fn", "f", "(", "x", ":", "u8", ")", "->", "u8", "{", "x", "}",
     ];
     assert_eq!(texts(source), code);
 }
@@ -60,7 +65,12 @@ fn the_parts_are_bodies_and_constant_values() {
     let source = "use a::b;
         const SIZE: [u8; 2] = [1, 2];
         struct S { x: u8 }
-        impl S { fn one(self) -> u32 ensures { result ≡ 1 } { 1 } }
+        impl<'a> S<'a> { fn one<const I: usize>(self) -> u32 ensures { result ≡ 1 } { 1 } }
+        impl From<S> for Result<u8, No> {
+            ghost from_gives = { λ s r. 1 ≡ 1 };
+            fn from(s: S) -> Result<u8, No> { Ok(1) }
+        }
+        fn each<F: Fn(u8) -> bool>(test: F) {}
         fn none(x: &mut [u8; 3]) {}";
     let code = Code::new(source);
     let parts: Vec<_> = code
@@ -71,6 +81,8 @@ fn the_parts_are_bodies_and_constant_values() {
     let expected = [
         ("SIZE", PartSort::Constant, "[1, 2]"),
         ("one", PartSort::Function("u32"), "{ 1 }"),
+        ("from", PartSort::Function("Result<u8, No>"), "{ Ok(1) }"),
+        ("each", PartSort::Function(""), "{}"),
         ("none", PartSort::Function(""), "{}"),
     ];
     assert_eq!(parts, expected);

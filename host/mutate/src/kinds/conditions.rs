@@ -12,8 +12,7 @@ pub fn fixed(code: &Code, part: &Part) -> Vec<Edit> {
             "while" => &["false"],
             _ => continue,
         };
-        let block = code.find(place, part.range.end, &["{"]);
-        let head = block.map(|block| place + 1..block);
+        let head = code.head(place, part.range.end);
         if let Some(head) = head.filter(|head| code.at(head.start) != "let") {
             let edit = |value: &&str| Edit::new(code.place(&head), *value);
             edits.extend(values.iter().map(edit));

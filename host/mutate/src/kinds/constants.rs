@@ -1,14 +1,12 @@
 //! Numbers and characters off by one.
 
-use super::refusals;
 use crate::code::{Code, Part};
 use crate::edit::Edit;
 use crate::tokens::{Sort, Token};
 
-/// Numbers of a field, as in `pair.0`, and refusals are left to others.
+/// The number of a field stays, as in `pair.0`.
 pub fn off_by_one(code: &Code, part: &Part) -> Vec<Edit> {
-    let refusals = refusals::places(code, part);
-    let places = part.range.clone().filter(|place| !refusals.contains(place));
+    let places = part.range.clone();
     let places = places.filter(|place| *place == 0 || code.at(place - 1) != ".");
     let token = |place: usize| &code.tokens[place];
     places.flat_map(|place| neighbours(token(place))).collect()

@@ -3,13 +3,15 @@
 use crate::code::{Code, Part};
 use crate::edit::Edit;
 
-const COMPARISONS: [(&str, &str); 6] = [
+const COMPARISONS: [(&str, &str); 8] = [
     ("<", "<="),
     ("<=", "<"),
     (">", ">="),
     (">=", ">"),
     ("==", "!="),
     ("!=", "=="),
+    ("min", "max"),
+    ("max", "min"),
 ];
 
 const ARITHMETIC: [(&str, &str); 14] = [
@@ -29,13 +31,14 @@ const ARITHMETIC: [(&str, &str); 14] = [
     (">>=", "<<="),
 ];
 
-const BOOLEANS: [(&str, &str); 2] = [("&&", "||"), ("||", "&&")];
+const BOOLEANS: [(&str, &str); 4] = [("&&", "||"), ("||", "&&"), ("all", "any"), ("any", "all")];
 
-/// Comparisons with their bound taken in or left out, and the ends of ranges.
+/// Comparisons with their bound taken in or left out, the ends of ranges, and the smaller or larger of two.
 pub fn comparisons(code: &Code, part: &Part) -> Vec<Edit> {
     let mut edits = exchanged(code, part, &COMPARISONS);
     for place in part.range.clone().filter(|place| code.at(*place) == "for") {
-        if let Some(range) = code.find(place, part.range.end, &["..", "..="]) {
+        let mut head = code.head(place, part.range.end).unwrap_or(place..place);
+        if let Some(range) = head.find(|place| ["..", "..="].contains(&code.at(*place))) {
             let new = if code.at(range) == ".." { "..=" } else { ".." };
             edits.push(Edit::of(&code.tokens[range], new));
         }
@@ -50,7 +53,7 @@ pub fn arithmetic(code: &Code, part: &Part) -> Vec<Edit> {
     edits
 }
 
-/// `&&` and `||`, `true` and `false`, and a `!` left out.
+/// `&&` and `||`, `true` and `false`, `all` and `any`, and a `!` left out.
 pub fn booleans(code: &Code, part: &Part) -> Vec<Edit> {
     let mut edits = exchanged(code, part, &BOOLEANS);
     for place in part.range.clone() {
@@ -65,10 +68,11 @@ pub fn booleans(code: &Code, part: &Part) -> Vec<Edit> {
     edits
 }
 
-/// The operators between two values.
+/// The operators between two values, and the methods.
 fn exchanged(code: &Code, part: &Part, table: &[(&str, &str)]) -> Vec<Edit> {
     let places = part.range.clone().skip(1);
-    let places = places.filter(|place| code.ends_value(place - 1));
+    let places = places.filter(|place| !code.closes_generics(*place));
+    let places = places.filter(|place| code.ends_value(place - 1) || code.at(place - 1) == ".");
     let edit = |place: usize| {
         let found = table.iter().find(|(old, _)| *old == code.at(place));
         found.map(|(_, new)| Edit::of(&code.tokens[place], *new))

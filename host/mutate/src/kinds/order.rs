@@ -6,11 +6,13 @@ use crate::blocks::Braces;
 use crate::code::{Code, Part};
 use crate::edit::Edit;
 
-/// Neighbouring arguments of a call, and the values of neighbouring fields of a struct that is made.
+/// Neighbouring arguments of a call, neighbours in a tuple or an array, and the values of neighbouring fields of a struct
+/// that is made. What a macro takes stays, and so do the names that a `for` gives.
 pub fn arguments(code: &Code, part: &Part) -> Vec<Edit> {
-    let calls = part.range.clone().skip(1);
-    let calls = calls.filter(|place| code.at(*place) == "(" && code.names(place - 1));
-    let mut lists: Vec<_> = calls.map(|open| code.items(open)).collect();
+    let opens = part.range.clone();
+    let opens = opens.filter(|place| ["(", "["].contains(&code.at(*place)));
+    let opens = opens.filter(|place| !["!", "for"].contains(&code.at(place - 1)));
+    let mut lists: Vec<_> = opens.map(|open| code.items(open)).collect();
     for (open, sort) in code.braces(&part.range) {
         if sort == Braces::Fields {
             let fields = code.items(open).into_iter();
@@ -29,14 +31,14 @@ fn value(code: &Code, field: Range<usize>) -> Range<usize> {
     }
 }
 
-/// Neighbouring indices of one statement: `a[i][j]`, and `to[i] = from[j]`.
+/// Neighbouring indices of one statement, or one arm: `a[i][j]`, and `to[i] = from[j]`.
 pub fn indices(code: &Code, part: &Part) -> Vec<Edit> {
     let opens = part.range.clone().skip(1);
     let opens = opens.filter(|place| code.at(*place) == "[" && code.ends_value(place - 1));
     let indices: Vec<_> = opens.map(|open| open + 1..code.closing(open)).collect();
     let in_one_statement = |pair: &&[Range<usize>]| {
         let mut between = pair[0].end..pair[1].start;
-        !between.is_empty() && !between.any(|place| [";", "{", "}"].contains(&code.at(place)))
+        !between.is_empty() && !between.any(|place| [";", "{", "}", "=>"].contains(&code.at(place)))
     };
     let pairs = indices.windows(2).filter(in_one_statement);
     let swapped = |pair: &[_]| swapped_neighbours(code, pair);

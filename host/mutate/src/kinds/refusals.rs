@@ -1,42 +1,28 @@
-//! Refusals with another number of RULES 9.1.
+//! Refusals for another reason of RULES 9.1.
 
-use second::refusal::Refusal;
-
-use crate::code::{Code, Part, PartSort};
+use crate::code::{Code, Part};
 use crate::edit::Edit;
 
-/// Each refusal becomes the one that is tested before it, and the one that is tested after it.
-pub fn other_number(code: &Code, part: &Part) -> Vec<Edit> {
-    let mut edits = Vec::new();
-    for place in places(code, part) {
-        for number in neighbours(code.at(place)) {
-            edits.push(Edit::of(&code.tokens[place], number));
-        }
-    }
-    edits
+/// The names of `Refusal` in the crate `rules`, in the order of the table of RULES 9.1: "They are tested in this order".
+pub const TABLE: [&str; 11] = [
+    "Cards", "Broken", "Modulus", "Set", "Card", "Records", "Sent", "Output", "Lag", "Text", "Beat",
+];
+
+/// Each `Refusal::Records` becomes the one that is tested before it, and the one that is tested after it.
+pub fn other_reason(code: &Code, part: &Part) -> Vec<Edit> {
+    let names = part.range.clone().skip(2);
+    let names = names.filter(|place| code.at(place - 2) == "Refusal" && code.at(place - 1) == "::");
+    let edits = |place: usize| {
+        let others = neighbours(code.at(place)).into_iter();
+        others.map(move |other| Edit::of(&code.tokens[place], other))
+    };
+    names.flat_map(edits).collect()
 }
 
-/// Where a function answers with a refusal: `return 5;`.
-pub fn places(code: &Code, part: &Part) -> Vec<usize> {
-    if part.sort != PartSort::Function("u32") {
-        return Vec::new();
-    }
-    let numbers = part
-        .range
-        .clone()
-        .skip(1)
-        .filter(|place| code.at(place - 1) == "return");
-    let numbers = numbers.filter(|place| code.at(place + 1) == ";");
-    numbers
-        .filter(|place| !neighbours(code.at(*place)).is_empty())
-        .collect()
-}
-
-fn neighbours(text: &str) -> Vec<String> {
-    let order = Refusal::TABLE.map(|refusal| refusal.number().to_string());
-    let rank = order.iter().position(|number| number == text);
+fn neighbours(name: &str) -> Vec<&'static str> {
+    let rank = TABLE.iter().position(|other| *other == name);
     rank.map_or(Vec::new(), |rank| {
         let ranks = rank.checked_sub(1).into_iter().chain(Some(rank + 1));
-        ranks.filter_map(|rank| order.get(rank).cloned()).collect()
+        ranks.filter_map(|rank| TABLE.get(rank).copied()).collect()
     })
 }
