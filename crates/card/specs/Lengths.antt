@@ -3,7 +3,7 @@ use Rattle.std.specs.Prelude.{ℕ, ◌*◌, leb}
 use Rattle.rules.specs.Parameters.{record_words}
 use Rattle.rules.specs.Refusals.{given, wrong, counter_refusal}
 
--- with 1 this is the rules' `stepRefusal`, with 2 their `stepBytesRefusal`
+-- with 1 this is the rules' `step_refusal`, with 2 their `step_bytes_refusal`
 abbrev pub refusal_in : ℕ → ℕ → ℕ → ℕ → ℕ → ℕ → ℕ → ℕ
 refusal_in units n f c card records out =
     counter_refusal n f c

@@ -8,5 +8,6 @@ pub take_line_determined : Determined take_line_kinds.ps take_line_kinds.r take_
 take_line_determined = (
   λ κs a. tt,
   λ κs a x y v w p q.
-      (same_answer _ x y (only_one p.answer.refusal q.answer.refusal) (only_one p.answer.taken q.answer.taken), rw (only_one p.records q.records, only_one p.line q.line)),
+      let same = same_answer _ x y (only_one p.answer.refusal q.answer.refusal) (only_one p.answer.taken q.answer.taken) in
+      (same, rw (only_one p.records q.records, only_one p.line q.line)),
 )

@@ -66,8 +66,9 @@ fn a_routine_that_is_not_listed() {
     let promised = "ensures { result ≡ x }";
     let plain = format!("\npub fn extra(x: u32) -> u32\n    {promised}\n{{\n    x\n}}\n");
     let in_one_line = format!("\npub fn extra(x: u32) -> u32 {promised} {{ x }}\n");
-    let method =
-        format!("\nimpl Column<'_> {{\n    pub fn extra(self, x: u32) -> u32 {promised} {{ x }}\n}}\n");
+    let method = format!(
+        "\nimpl Column<'_> {{\n    pub fn extra(self, x: u32) -> u32 {promised} {{ x }}\n}}\n"
+    );
     let generic = format!(
         "\nimpl<'a, T: Is<u8>> Pair<'a, T> {{\n    pub fn extra(self, x: u32) -> u32 {promised} {{ x }}\n}}\n"
     );
@@ -156,7 +157,11 @@ fn a_method_that_no_other_crate_calls() {
     reported(
         "not-called-method",
         |copy| {
-            copy.replace("crates/steps/src/lib.rt", "col.smallest_supported(", "col.supported(");
+            copy.replace(
+                "crates/steps/src/lib.rt",
+                "col.smallest_supported(",
+                "col.supported(",
+            );
         },
         &["contracts: columns::Column::smallest_supported: no other crate calls it"],
     );

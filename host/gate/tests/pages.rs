@@ -66,10 +66,16 @@ fn no_page_needs_a_document_that_is_not_here() {
     }
 }
 
-/// The file of a routine, and its own name: `text::lines::line_end` is in text/src/lines.rt.
+/// The file of a routine, and its own name: `text::lines::line_end` is in text/src/lines.rt, and `feed::Run::new`, a method,
+/// in feed/src/lib.rt.
 fn source_of(routine: &str) -> (String, String) {
     let parts: Vec<&str> = routine.split("::").collect();
-    let module = if parts.len() == 3 { parts[1] } else { "lib" };
+    let is_module = |part: &&str| part.starts_with(|sign: char| sign.is_lowercase());
+    let module = parts[1..parts.len() - 1]
+        .iter()
+        .copied()
+        .find(|part| is_module(part))
+        .unwrap_or("lib");
     let file = format!("crates/{}/src/{module}.rt", parts[0]);
     (page(&file), parts[parts.len() - 1].to_string())
 }
@@ -93,7 +99,9 @@ fn cited_from_elsewhere(routine: &str) -> BTreeSet<String> {
     let begin = source
         .find(&format!("fn {name}("))
         .expect("the routine is there");
-    let head = source[begin..].split("\n{").next().expect("a body");
+    let rest = &source[begin..];
+    let body = |brace: &str| rest.find(brace).unwrap_or(rest.len());
+    let head = &rest[..body("\n{").min(body("\n    {"))];
     let words: BTreeSet<&str> = head.split(|sign: char| " ().{}\n".contains(sign)).collect();
     lent(&source)
         .into_iter()
