@@ -68,7 +68,7 @@ fn is_refusal(text: &[u8]) -> bool {
 }
 
 // Feeds a piece line by line, and writes each output line as it is known. All of the piece is fed, written or not, so that
-// the contract says for every piece where the run stands after it.
+// the contract says for every piece where the run stands after it. No index is counted: each call returns where to go on.
 fn run_piece(run: &mut Run, piece: &[u8], streams: &mut Streams)
     ensures { FeedsAll run.old piece.now run.new }
 {

@@ -15,7 +15,7 @@ use rules::{Refusal, Vote};
 // Lengths in words, one to a word.
 const WORDS: u8 = 1;
 
-// Refusals 1, 2, 3, 4, 5, 6. The lengths are in words or in bytes: `units` of them make a word.
+// Refusals 1, 2, 3, 4, 5, 6. The lengths are in words or in bytes: `units` of them make a word. No enum: any number of units will do.
 pub fn step_refusal(
     counter: Counter,
     card: u32,

@@ -8,6 +8,7 @@ ghost use Rattle.columns.specs.Columns.{Within, MostFrequentAsks, VoteAsks, Comp
 use rules::Vote;
 
 // The word `at` of each of n cards, from the card `first` on, in a table `recs` of records of w words.
+// That it lies within the table is a clause and no invariant: `Group::column`, which makes columns, requires less.
 #[derive(Clone, Copy)]
 pub struct Column<'a> {
     pub recs: &'a [u16],

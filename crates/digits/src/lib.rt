@@ -18,7 +18,7 @@ fn is_digit(ch: u8) -> bool
     matches!(ch, b'0'..=b'9' | b'a'..=b'f')
 }
 
-// The value of a digit.
+// The value of a digit. The ways of std take a `char` and may answer none, which is no plainer.
 #[tactic(auto, using(crate::proofs::Hexadecimal::digit_cases), unfolding(rules::specs::Text::value_of))]
 fn value_of(ch: u8) -> u32
     requires { is_digit ch ≡ true }

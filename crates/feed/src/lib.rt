@@ -31,7 +31,8 @@ pub struct Run {
     pub table: [u16; 400],
 }
 
-// What feeding a part of a piece returns: from which place of the piece to go on, and how long the text is that it writes.
+// What feeding a part of a piece returns: from which place of the piece to go on, and how long the text is that it writes to the
+// caller's fixed buffer.
 #[derive(Clone, Copy)]
 pub struct Fed {
     pub next: usize,

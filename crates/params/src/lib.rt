@@ -36,7 +36,8 @@ pub struct Row {
     pub beats: u16,
 }
 
-// What a counter is made for: n cards, of which f may be broken, that count modulo c.
+// What a counter is made for: n cards, of which f may be broken, that count modulo c. Where c plays no part, n and f come as two
+// numbers: a second struct would be no plainer.
 #[derive(Clone, Copy)]
 pub struct Counter {
     pub n: u32,

@@ -2,7 +2,7 @@
 use mathlib.Core.Path.{◌≡◌, refl, sym, ap, ◌∙◌}
 use mathlib.Core.List.{List, [], ◌∷◌, ◌++◌, append_assoc}
 use Prim.Native.Nat.{ℕ, suc, ◌+◌, ◌*◌, ◌-◌, ◌/◌, ◌≤◌, ◌<◌}
-use native.Mathlib.Nat.{zero-add, suc-mul}
+use native.Mathlib.Nat.{suc-mul}
 use native.Mathlib.Numerals.{add-one}
 use native.Mathlib.Omega.{arith}
 use borrow.Rule.Slice.PartMut.{put_mid, Post-is}
@@ -75,11 +75,3 @@ next_record_lem table w v row e fits done =
     rw (add-one v, sets-eq (row v) table (v * w) (omega arith), done)
     (take_at (rows v row ++ row v) (drop (v * w + length (row v)) table) (suc v * w)
     (omega (arith, length-append (rows v row) (row v), ap length done, length-take-le (v * w) table (omega arith))))
-
--- the words that a list begins with
-pub words_first : (words rest : List ℕ) (count : ℕ) → length words ≡ count → words_from (words ++ rest) 0 count ≡ words
-words_first words rest count e =
-    ext_get_or 0 _ words (tabulate_length count _ ∙ sym e)
-    (λ i l.
-    let here : i < count = omega (arith, tabulate_length count (λ (j : ℕ). get_or (words ++ rest) (0 + j) 0)) in
-    tabulate_at count _ i here ∙ rw (zero-add i) (before_seam words rest i (omega arith)))

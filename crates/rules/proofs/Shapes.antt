@@ -19,28 +19,7 @@ pub neither : (s t : Bool) → (s || t) ≡ false → (s ≡ false) × (t ≡ fa
 neither true t e = absurd (never e)
 neither false t e = (refl, e)
 
--- refusals 1 and 2 stand whatever comes after them
-pub shape_refused : (s t : Bool) (others r : ℕ) → r ≡ given 1 s (given 2 t 0) → (r ≡ 0 → ⊥) → r ≡ given 1 s (given 2 t others)
-shape_refused true t others r e h = e
-shape_refused false true others r e h = e
-shape_refused false false others r e h = absurd (h e)
-
--- and where neither is given, what comes after them decides
-pub shape_passed : (s t : Bool) (others r : ℕ) → r ≡ given 1 s (given 2 t 0) → r ≡ 0 → given 1 s (given 2 t others) ≡ others
-shape_passed true t others r e z = absurd (omega arith)
-shape_passed false true others r e z = absurd (omega arith)
-shape_passed false false others r e z = refl
-
--- the same of refusals 1, 2 and 3
-pub counter_refused : (n f c others r : ℕ) → r ≡ counter_refusal n f c 0 → (r ≡ 0 → ⊥) → r ≡ counter_refusal n f c others
-counter_refused n f c others r e h = go (bad_cards n) (bad_broken n f) (bad_modulus c) e
-  where
-    go : (s t u : Bool) → r ≡ given 1 s (given 2 t (given 3 u 0)) → r ≡ given 1 s (given 2 t (given 3 u others))
-    go true t u q = q
-    go false true u q = q
-    go false false true q = q
-    go false false false q = absurd (h q)
-
+-- where refusals 1, 2 and 3 are not given, what comes after them decides
 pub counter_passed : (n f c others r : ℕ) → r ≡ counter_refusal n f c 0 → r ≡ 0 → counter_refusal n f c others ≡ others
 counter_passed n f c others r e z = go (bad_cards n) (bad_broken n f) (bad_modulus c) e
   where

@@ -6,7 +6,7 @@ ghost use Rattle.rules.specs.Counting.{count_or0};
 ghost use Rattle.rules.specs.Groups.{read_vote, word_of};
 ghost use Rattle.rules.specs.Refusals.{number_of};
 
-// A vote, an output. RULES 1: "A vote is a count or none, and is kept as such".
+// A vote, an output. RULES 1: "A vote is a count or none, and is kept as such". No `Option`: all definitions speak of these two cases.
 #[derive(Clone, Copy)]
 pub enum Vote {
     Count(u16),

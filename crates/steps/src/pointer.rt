@@ -25,7 +25,7 @@ fn phase_by(part: u16, t: u16, d: Vote, d0: Vote, d1: Vote) -> u16
     }
 }
 
-// RULES 5.5: "A card of half i follows pi, or the other half's pointer if pi is none."
+// RULES 5.5: "A card of half i follows pi, or the other half's pointer if pi is none." The half is the rules' index i, and so a number.
 pub fn phase_of(half: usize, f: u32, t: u16, d0: Vote, d1: Vote) -> u16
     requires { TurnOf f t }
     ensures { result ≡ phase half f d0 d1 }

@@ -37,7 +37,7 @@ fn step_within<const TABLE: usize>(counter: Counter, card: u32, records: &[u8], 
     wordbytes::encode(next, out);
 }
 
-// One card's step: the card's next record, from the n records that it hears.
+// One card's step: the card's next record, from the n records that it hears. C gets a refusal by its number.
 #[unsafe(no_mangle)]
 pub extern "C" fn tsendurkho_step(
     n: u32,
@@ -62,7 +62,7 @@ pub extern "C" fn tsendurkho_step(
     0
 }
 
-// The refusal of a lag.
+// The refusal of a lag, by its number.
 #[unsafe(no_mangle)]
 pub extern "C" fn tsendurkho_lag_refusal(c: u32, x: u32, y: u32) -> u32
     ensures { result ≡ lag_refusal c x y }
