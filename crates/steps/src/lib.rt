@@ -19,6 +19,7 @@ pub struct Standing {
 
 impl Standing {
     // RULES 5.6: "Step 0. If fewer than n-f cards sent this card's a, a becomes none. b stays."
+    #[tactic(auto, unfolding(rules::specs::OneBeat::step0))]
     fn step_0(self, col: Column, f: u32, c: u32) -> Standing
         requires { (Within col) × (f < 256) }
         ensures { standing result ≡ step0 col.entry.n f (votes_in c col.entry) (standing self) }
@@ -35,6 +36,7 @@ impl Standing {
 
     // RULES 5.6: "Step 1. b becomes 1 if at least n-f cards sent this card's old a, else 0"; "a becomes the smallest count heard
     // more than f times, or none if there is no such count."
+    #[tactic(auto, unfolding(rules::specs::OneBeat::step1))]
     fn step_1(self, col: Column, f: u32, c: u32) -> Standing
         requires { StepAsks col f c }
         ensures { standing result ≡ step1 col.entry.n f c (votes_in c col.entry) (standing self) }
@@ -46,6 +48,7 @@ impl Standing {
     }
 
     // RULES 5.6: "If a is none or b is 0, a becomes the king's a, or 0 if the king has none."; "b becomes 1."
+    #[tactic(auto, unfolding(rules::specs::OneBeat::step2, rules::specs::OneBeat::obeyed))]
     fn step_2(self, king: Vote) -> Standing
         ensures { standing result ≡ step2 king (standing self) }
     {
@@ -60,6 +63,7 @@ impl Standing {
 }
 
 // RULES 5.6: "d modulo 3 picks the step, and the king is card d/3 of the group."
+#[tactic(auto, unfolding(rules::specs::OneBeat::three_steps))]
 pub fn three_steps(col: Column, f: u32, c: u32, d: u16, s: Standing) -> Standing
     requires { ThreeStepsAsks col f c d }
     ensures { standing result ≡ three_steps col.entry.n f c (votes_in c col.entry) d (standing s) }
@@ -75,6 +79,7 @@ pub fn three_steps(col: Column, f: u32, c: u32, d: u16, s: Standing) -> Standing
 }
 
 // RULES 5.6: "After each step a count gains 1 modulo c; none stays none."
+#[tactic(auto, unfolding(rules::specs::OneBeat::gained))]
 pub fn gain(c: u32, a: Vote) -> Vote
     requires { (0 < c) × (c ≤ 65535) }
     ensures { result ≡ gained c a }
