@@ -28,7 +28,7 @@ fn step_split(g: Group, card: usize, out: &mut [u16])
     ensures { WritesGroup g.entry card out.old out.new }
 {
     let row = params::row_of(g.f);
-    level::put_level(out, g.base, level::next_level(g, card, row));
+    level::next_level(g, card, row).put(&mut out[g.base..g.base + 8]);
     step_half(g, card, row, out);
 }
 

@@ -67,8 +67,8 @@ pub record LevelAsks (g : Group) (card : ℕ) (row : Row) : Type 0 where
   pub member : card < g.n
   pub row_is : row ≡ row_read g.f
 
--- what `next_vote` requires: a half of a split group, and its modulus
-pub record NextVoteAsks (g : Group) (half m : ℕ) : Type 0 where
+-- what the vote of half i requires: a split group, and the half's modulus
+pub record NextVoteAsks (i : ℕ) (g : Group) (m : ℕ) : Type 0 where
   pub split : Split g
-  pub a_half : half < 2
-  pub modulus : m ≡ half_modulus half g.f
+  pub a_half : i < 2
+  pub modulus : m ≡ half_modulus i g.f

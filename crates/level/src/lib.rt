@@ -2,8 +2,7 @@
 
 pub mod group;
 
-ghost use Rattle.std.specs.Prelude.{◌≡◌, ℕ, ◌+◌, ◌<◌, ◌≤◌, length};
-ghost use Rattle.std.proofs.lemmas.List.Edits.{sets};
+ghost use Rattle.std.specs.Prelude.{◌≡◌, ℕ, ◌<◌, ◌≤◌, length};
 ghost use Rattle.rules.specs.Groups.{at_half, half_of, output_of};
 ghost use Rattle.rules.specs.OneBeat.{most_frequent, cooldown, trusted, phase, next_vote, next_standing};
 ghost use Rattle.steps.specs.Standings.{standing};
@@ -111,6 +110,21 @@ impl Level {
             ..s
         }
     }
+
+    // The level's eight words. One by one: copied from an array they cost the step more.
+    pub fn put(self, out: &mut [u16])
+        requires { length out.old ≡ 8 }
+        ensures { out.new ≡ words_of self }
+    {
+        out[0] = self.m0;
+        out[1] = self.m1;
+        out[2] = u16::from(self.vote0);
+        out[3] = u16::from(self.vote1);
+        out[4] = self.wait0;
+        out[5] = self.wait1;
+        out[6] = u16::from(self.a);
+        out[7] = u16::from(self.b);
+    }
 }
 
 impl Group<'_> {
@@ -133,11 +147,11 @@ impl Group<'_> {
     }
 
     // Mi, by the m that the cards sent.
-    fn next_vote(self, half: usize, m: u16) -> Vote
-        requires { NextVoteAsks self half m }
-        ensures { result ≡ next_vote half self.entry.n self.entry.f (heard_by self.entry) }
+    fn next_vote<const I: usize>(self, m: u16) -> Vote
+        requires { NextVoteAsks I self m }
+        ensures { result ≡ next_vote I self.entry.n self.entry.f (heard_by self.entry) }
     {
-        self.column(half).vote_of(self.f as usize, m as usize)
+        self.column(I).vote_of(self.f as usize, m as usize)
     }
 }
 
@@ -147,8 +161,8 @@ pub fn next_level(g: Group, card: usize, row: Row) -> Level
     ensures { result ≡ level_after g.entry.n g.entry.f g.entry.c (heard_by g.entry) card }
 {
     let own = Level::read(g, card, row);
-    let vote0 = g.next_vote(0, row.c0);
-    let vote1 = g.next_vote(1, row.c1);
+    let vote0 = g.next_vote::<0>(row.c0);
+    let vote1 = g.next_vote::<1>(row.c1);
     let voted = own.voted::<0>(vote0, row).voted::<1>(vote1, row);
     let stand = own.next_standing(g, card, row);
     Level {
@@ -158,19 +172,4 @@ pub fn next_level(g: Group, card: usize, row: Row) -> Level
         b: stand.b,
         ..voted
     }
-}
-
-// The level's eight words, written from `base` on. One by one: copied from an array they cost the step more.
-pub fn put_level(out: &mut [u16], base: usize, l: Level)
-    requires { base + 8 ≤ length out.old }
-    ensures { out.new ≡ sets out.old base (words_of l) }
-{
-    out[base] = l.m0;
-    out[base + 1] = l.m1;
-    out[base + 2] = u16::from(l.vote0);
-    out[base + 3] = u16::from(l.vote1);
-    out[base + 4] = l.wait0;
-    out[base + 5] = l.wait1;
-    out[base + 6] = u16::from(l.a);
-    out[base + 7] = u16::from(l.b);
 }

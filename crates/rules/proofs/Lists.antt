@@ -1,13 +1,14 @@
--- Laws of lists by their places: rows one after the other, numbers by a rule, padding.
+-- Laws of lists by their places: parts written, rows one after the other, numbers by a rule, padding.
 use mathlib.Core.Path.{◌≡◌, refl, sym, ap, ◌∙◌}
 use mathlib.Core.Logic.{⊎_elim}
-use mathlib.Core.List.{List, [], ◌∷◌, ◌++◌}
+use mathlib.Core.List.{List, [], ◌∷◌, ◌++◌, append_assoc}
 use Prim.Native.Nat.{ℕ, zero, suc, ◌+◌, ◌*◌, ◌-◌, ◌≤◌, ◌<◌}
 use native.Mathlib.Nat.{eq-or-lt_of_le}
 use native.Mathlib.Omega.{arith}
+use borrow.Rule.Slice.PartMut.{put_mid}
 use lib.Arith.{digits_lt}
-use lib.ListN.{length, get_or, replicate, length-append, length-replicate, get_or-replicate, get_or-append, get_or-eq_default}
-use lib.Seq.{get_or-append-add}
+use lib.ListN.{length, get_or, take, drop, replicate, length-append, length-replicate, get_or-replicate, get_or-append, get_or-eq_default}
+use lib.Seq.{sets, sets-eq, drop-drop, get_or-append-add}
 use Rattle.rules.specs.Counting.{rows, tabulate}
 use Rattle.rules.specs.OneBeat.{padded}
 use Rattle.rules.proofs.Tests.{le_or_lt}
@@ -18,6 +19,12 @@ before_seam x y j l = get_or-append x y 0 j l
 
 pub behind_seam : (x y : List ℕ) (k j : ℕ) → length x ≡ k → get_or (x ++ y) (k + j) 0 ≡ get_or y j 0
 behind_seam x y k j e = rw (← e) (get_or-append-add x y j 0)
+
+-- a part of n that was written, as `&mut l[a..b]` is given back
+pub part_back : (p l : List ℕ) (a n : ℕ) → length p ≡ n → a + n ≤ length l → put_mid a n l p ≡ sets l a p
+part_back p l a n e h =
+    let q : a + n ≡ a + length p = omega arith in
+    sym (sets-eq p l a (omega arith) ∙ rw (drop-drop n a l, q) (append_assoc (take a l) p (drop (a + length p) l)))
 
 -- n rows of w are n * w long
 pub rows_length : (n w : ℕ) (g : ℕ → List ℕ) → ((i : ℕ) → i < n → length (g i) ≡ w) → length (rows n g) ≡ n * w

@@ -1,4 +1,6 @@
-use Rattle.std.proofs.Common.{arith}
+use Rattle.std.proofs.Common.{◌∙◌, ap, ◌+◌, ◌-◌, length, arith}
+use lib.Seq.{sets}
+use Rattle.rules.proofs.Lists.{part_back}
 use Rattle.rules.proofs.Records.{eight_words}
 use Rattle.level.specs.Groups.{heard_by}
 use Rattle.level.proofs.Rows.{halves_asked}
@@ -21,16 +23,18 @@ step_half-step_group-requires-else-card-before t c =
     let h = half_smaller 1 c.requires.0.split (omega arith) c.half-else-card-before.ensures in
     (omega arith, record { fits = h.fits; member = omega (arith, c.requires.0.member); words = omega (arith, c.requires.1) })
 
-pub step_split-put_level-requires : goal.step_split-put_level-requires
-step_split-put_level-requires t c =
+pub step_split-slice_bounds-put-end : goal.step_split-slice_bounds-put-end
+step_split-slice_bounds-put-end t c =
     omega (arith, c.requires.words, eight_words c.args.g.f c.requires.split.some)
 
 pub step_split-returns : goal.step_split-returns
 step_split-returns t c =
     let g = c.args.g in
-    node_is g.n g.f g.c (heard_by g) c.args.card g.base c.args.out.now c.put_level.new.out
-    _ c.next_level.result c.requires.split.some c.next_level.ensures c.put_level.ensures
-    c.step_half.ensures
+    let out = c.args.out.now in
+    let there = part_back c.put.new.out out g.base (g.base + 8 - g.base) (omega (arith, ap length c.put.ensures))
+    (omega (arith, c.requires.words, eight_words g.f c.requires.split.some)) in
+    node_is g.n g.f g.c (heard_by g) c.args.card g.base out _ _ c.next_level.result c.requires.split.some
+    c.next_level.ensures (there ∙ ap (sets out g.base) c.put.ensures) c.step_half.ensures
 
 pub step_group-returns-then-g-eq0 : goal.step_group-returns-then-g-eq0
 step_group-returns-then-g-eq0 t c =

@@ -5,18 +5,18 @@ use Rattle.level.proofs.Rows.{modulus_small}
 use Rattle.level.proofs.group.Group.next_vote.Goals as goal
 
 pub column-requires : goal.column-requires
-column-requires c = split_place c.requires.split _ (omega arith)
+column-requires g c = split_place c.requires.split _ (omega arith)
 
 pub vote_of-requires : goal.vote_of-requires
-vote_of-requires c =
+vote_of-requires g c =
     let fits = c.requires.split.fits in
     rw (c.column.ensures, c.requires.modulus)
     (record {
       within = column_within c.requires.split _ (omega arith);
       few = fits.few;
-      room = modulus_small c.args.half c.args.self.f fits.broken;
+      room = modulus_small g.row.I c.args.self.f fits.broken;
     })
 
 pub returns : goal.returns
 unfolding next_vote
-returns c = search rules
+returns g c = search rules
