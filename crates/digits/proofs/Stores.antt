@@ -1,13 +1,12 @@
 -- Laws of storing lists one after the other.
-use mathlib.Core.Path.{◌≡◌, sym, ◌∙◌}
-use mathlib.Core.List.{List, [], ◌∷◌, ◌++◌, append_assoc}
-use Prim.Native.Nat.{ℕ, suc, ◌+◌, ◌*◌, ◌≤◌}
+use mathlib.Core.Path.{◌≡◌, ◌∙◌}
+use mathlib.Core.List.{List, [], ◌∷◌, ◌++◌}
+use Prim.Native.Nat.{ℕ, suc, ◌+◌, ◌*◌}
 use native.Mathlib.Nat.{add-zero}
 use native.Mathlib.Numerals.{add-one}
 use native.Mathlib.Omega.{arith}
-use borrow.Rule.Slice.PartMut.{put_mid}
-use lib.ListN.{length, set, take, drop}
-use lib.Seq.{sets, sets-eq, drop-drop}
+use lib.ListN.{length, set}
+use lib.Seq.{sets}
 use Rattle.rules.specs.Counting.{rows}
 use Rattle.rules.proofs.Lists.{rows_length}
 
@@ -17,12 +16,6 @@ sets_append [] q l i = rw (add-zero i)
 sets_append (a ∷ p) q l i =
     let e : suc i + length p ≡ i + suc (length p) = omega arith in
     sets_append p q (set l i a) (suc i) ∙ rw e
-
--- a part of n that was written, as `&mut l[a..b]` is given back
-pub part_back : (p l : List ℕ) (a n : ℕ) → length p ≡ n → a + n ≤ length l → put_mid a n l p ≡ sets l a p
-part_back p l a n e h =
-    let q : a + n ≡ a + length p = omega arith in
-    sym (sets-eq p l a (omega arith) ∙ rw (drop-drop n a l, q) (append_assoc (take a l) p (drop (a + length p) l)))
 
 -- one row more
 pub rows_more : (l : List ℕ) (at i w p : ℕ) (g : ℕ → List ℕ) → ((j : ℕ) → length (g j) ≡ w) → at + i * w ≡ p

@@ -17,9 +17,9 @@ use Rattle.rules.specs.Text.{words_at}
 use Rattle.rules.specs.WholeBeat.{table_after}
 use Rattle.rules.specs.RunFile.{Stage, at_header, at_start, at_beat, Taken, accepted, refused, take_line, at_end, refusal_line}
 use Rattle.rules.specs.RunFile.{start_words, beat_words, header_refusal, start_line_refusal, beat_line_refusal, or_refused}
+use Rattle.rules.proofs.Lists.{part_back}
 use Rattle.rules.proofs.Numbers.{number_not_0}
 use Rattle.rules.proofs.Tests.{decided, le_or_lt}
-use Rattle.digits.proofs.Stores.{part_back}
 use Rattle.digits.proofs.WordsOfText.{words_length}
 use Rattle.text.specs.Lines.{line_length, end_from}
 use Rattle.frames.specs.Headers.{said}

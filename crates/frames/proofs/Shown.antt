@@ -23,12 +23,12 @@ use Rattle.rules.specs.Refusals.{given, wrong, counter_refusal, value_in}
 use Rattle.rules.specs.Calls.{shown_answer}
 use Rattle.rules.specs.Text.{hex_of, line_feed}
 use Rattle.rules.specs.RunFile.{Header, header_tests, start_words, shown_word, output_line, refusal_line}
-use Rattle.rules.proofs.Lists.{rows_length, rows_same}
+use Rattle.rules.proofs.Lists.{part_back, rows_length, rows_same}
 use Rattle.rules.proofs.Records.{output_inside}
 use Rattle.rules.proofs.Shapes.{counter_passed}
 use Rattle.digits.proofs.Hexadecimal.{hex_length}
 use Rattle.digits.proofs.Parts.{part_length}
-use Rattle.digits.proofs.Stores.{sets_append, part_back}
+use Rattle.digits.proofs.Stores.{sets_append}
 use Rattle.frames.proofs.Stores.{first_stored}
 
 -- a record of the table

@@ -5,8 +5,7 @@ use Prim.Native.Nat.{ℕ, ◌≤◌, ◌<◌}
 use native.Mathlib.Omega.{arith}
 use lib.ListN.{length, get_or, drop}
 use lib.Seq.{sets}
-use Rattle.rules.proofs.Lists.{before_seam}
-use Rattle.digits.proofs.Stores.{part_back}
+use Rattle.rules.proofs.Lists.{before_seam, part_back}
 
 -- the first words of a buffer are stored
 pub prefix_stored : (buffer words : List ℕ) (k : ℕ) → length words ≡ k → k ≤ length buffer

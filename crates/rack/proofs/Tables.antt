@@ -1,17 +1,17 @@
 -- Laws of writing records into a table.
 use mathlib.Core.Path.{◌≡◌, refl, sym, ap, ◌∙◌}
-use mathlib.Core.List.{List, [], ◌∷◌, ◌++◌, append_assoc}
+use mathlib.Core.List.{List, [], ◌∷◌, ◌++◌}
 use Prim.Native.Nat.{ℕ, suc, ◌+◌, ◌*◌, ◌-◌, ◌/◌, ◌≤◌, ◌<◌}
 use native.Mathlib.Nat.{suc-mul}
 use native.Mathlib.Numerals.{add-one}
 use native.Mathlib.Omega.{arith}
-use borrow.Rule.Slice.PartMut.{put_mid, Post-is}
+use borrow.Rule.Slice.PartMut.{put_mid}
 use lib.Arith.{digits_div}
 use lib.ListN.{length, get_or, set, take, drop, length-append, length-drop}
 use lib.Seq.{sets, sets-eq, take_at, length-take-le, get_or-set_other, get_or-take, get_or-drop, ext_get_or}
 use Rattle.rules.specs.Counting.{rows}
 use Rattle.rules.specs.Groups.{heard_in}
-use Rattle.rules.proofs.Lists.{tabulate_at, tabulate_length, before_seam, behind_seam}
+use Rattle.rules.proofs.Lists.{part_back, tabulate_at, tabulate_length, before_seam, behind_seam}
 use Rattle.rack.specs.Racks.{words_from}
 
 -- a record's part of the table, `&mut table[at..at + w]`; and the table where a record was written there
@@ -20,12 +20,6 @@ part table at w = take (at + w - at) (drop at table)
 
 pub part_length : (table : List ℕ) (at w : ℕ) → at + w ≤ length table → length (part table at w) ≡ w
 part_length table at w h = length-take-le (at + w - at) (drop at table) (omega (arith, length-drop at table)) ∙ omega arith
-
-pub part_back : (words table : List ℕ) (at w : ℕ) → length words ≡ w → at + w ≤ length table
-    → put_mid at (at + w - at) table words ≡ sets table at words
-part_back words table at w e h =
-    rw (Post-is at (at + w) table (omega arith))
-    (sym (sets-eq words table at (omega arith) ∙ rw e (append_assoc (take at table) words (drop (at + w) table))))
 
 -- what is copied is that part of the list
 pub part_is : (from : List ℕ) (at count : ℕ) → at + count ≤ length from → part from at count ≡ words_from from at count
@@ -40,7 +34,8 @@ part_is from at count h =
 pub copied : (from to words : List ℕ) (at place count : ℕ) → at + count ≤ length from → place + count ≤ length to
     → words ≡ part from at count → put_mid place (place + count - place) to words ≡ sets to place (words_from from at count)
 copied from to words at place count hf ht e =
-    part_back words to place count (ap length e ∙ part_length from at count hf) ht ∙ ap (sets to place) (e ∙ part_is from at count hf)
+    let long : length words ≡ place + count - place = omega (arith, ap length e, part_length from at count hf) in
+    part_back words to place (place + count - place) long (omega arith) ∙ ap (sets to place) (e ∙ part_is from at count hf)
 
 -- what is written is there
 pub written : (words table : List ℕ) (at j : ℕ) → at + length words ≤ length table → j < length words

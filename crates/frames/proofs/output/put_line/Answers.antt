@@ -6,8 +6,9 @@ use lib.ListN.{length}
 use lib.Seq.{length-sets}
 use Rattle.rules.specs.Counting.{rows}
 use Rattle.rules.specs.Text.{hex_of}
+use Rattle.rules.proofs.Lists.{part_back}
 use Rattle.digits.proofs.Hexadecimal.{hex_length}
-use Rattle.digits.proofs.Stores.{part_back, rows_more}
+use Rattle.digits.proofs.Stores.{rows_more}
 use Rattle.frames.specs.Headers.{said}
 use Rattle.frames.proofs.Headers.{good}
 use Rattle.frames.proofs.Shown.{shown_text, line_length_lem, line_stored}

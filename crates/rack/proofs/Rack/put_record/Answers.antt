@@ -1,9 +1,10 @@
 -- `rack::Rack::put_record` meets its contract: a broken card's record is copied, a sound card's is its step's.
-use Rattle.std.proofs.Common.{◌≤◌, ◌+◌, sym, ap, ◌∙◌, length, ◌*◌}
+use Rattle.std.proofs.Common.{◌≤◌, ◌+◌, ◌-◌, sym, ap, ◌∙◌, length, ◌*◌}
 use native.Mathlib.Omega.{arith}
 use lib.Seq.{sets}
+use Rattle.rules.proofs.Lists.{part_back}
 use Rattle.rack.specs.Racks.{size, SoundAsHeld}
-use Rattle.rack.proofs.Tables.{part_length, part_back, copied}
+use Rattle.rack.proofs.Tables.{part_length, copied}
 use Rattle.rack.proofs.Accepted.{accepted, record_fits}
 use Rattle.rack.proofs.Records.{broken_record, sound_record}
 use Rattle.rack.proofs.Rack.put_record.Goals as goal
@@ -44,6 +45,8 @@ returns-else-is_broken c =
     let stepped =
     sound_record r a.held.now a.sent.now (length a.out.now) a.v heard c.fill.new.self q.accepted q.card_below
     e many (long ∙ c.record_words-w.ensures) sound c.hear.ensures.1 in
-    let put = part_back c.put_next.new.out a.out.now at w (c.put_next.auto.out ∙ long) fits.inside in
+    let put =
+    part_back c.put_next.new.out a.out.now at (at + w - at) (omega (arith, c.put_next.auto.out, long))
+    (omega (arith, fits.inside)) in
     let is = ap (sets a.out.now (a.v * size r)) (c.put_next.ensures ∙ stepped) in
     (put ∙ rw c.record_words-w.ensures is, sound)
