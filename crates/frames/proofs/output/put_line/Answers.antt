@@ -28,10 +28,10 @@ loop-v-preserved c =
     let out = c.loop-v.out in
     let at = 4 + 4 * v in
     let word = c.put_word-in-loop-v.new.out in
-    let shown = shown_text (said c.args.rack) c.args.table.now in
+    let shown = shown_text (said c.args.header.rack) c.args.table.now in
     let e : word ≡ shown v = c.put_word-in-loop-v.ensures ∙ ap (hex_of 4) c.shown_word.ensures in
     let four : at + 4 - at ≡ 4 = omega arith in
-    let few = (good (said c.args.rack) c.requires.passes).shape.cards in
+    let few = (good (said c.args.header.rack) c.args.header.passes).shape.cards in
     let s = part_back word out at (at + 4 - at) (rw (e, four) (hex_length 4 _)) (omega arith) in (
       rw s (omega (arith, length-sets out at word)),
       s ∙ rw (c.loop-v.invariant.1, e) (rows_more _ 4 v 4 at shown (λ j. hex_length 4 _) (omega arith)),
@@ -40,7 +40,7 @@ loop-v-preserved c =
 pub returns : goal.returns
 returns c =
     let a = c.args in
-    let h = said a.rack in
+    let h = said a.header.rack in
     let e : c.loop-v.v ≡ h.n = omega arith in
     let s = part_back c.put_word.new.out a.out.now 0 4 (ap length c.put_word.ensures ∙ hex_length 4 a.beat) (omega arith) in (
       omega (arith, line_length_lem h a.beat a.table.now),

@@ -7,4 +7,4 @@ use Rattle.frames.proofs.output.put_line.Given as goal
 
 -- behind the beat stand the words of the cards passed
 abbrev pub invariant-loop-v : goal.invariant-loop-v
-invariant-loop-v l = (length l.out ≡ 69) × (l.out ≡ sets l.initial.out 4 (rows l.v (shown_text (said l.rack) l.table)))
+invariant-loop-v l = (length l.out ≡ 69) × (l.out ≡ sets l.initial.out 4 (rows l.v (shown_text (said l.header.rack) l.table)))

@@ -1,9 +1,0 @@
--- The product is small.
-use native.Mathlib.Omega.{arith}
-use Rattle.frames.specs.Headers.{said}
-use Rattle.frames.proofs.Headers.{start_most}
-use Rattle.frames.proofs.frame.start_words.Goals as goal
-
-pub overflow_mul-result : goal.overflow_mul-result
-overflow_mul-result c =
-    omega (arith, rw (← c.record_words.ensures) at (start_most (said c.args.rack) c.requires))
