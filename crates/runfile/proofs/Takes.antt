@@ -4,7 +4,6 @@ use mathlib.Core.Logic.{⊎_elim}
 use mathlib.Core.Bool.{true, false}
 use mathlib.Core.List.{List, []}
 use Prim.Native.Nat.{ℕ, ◌≤◌}
-use native.Mathlib.Omega.{arith}
 use borrow.Author.Tests.{eq-eqb, ne_eqb}
 use lib.Dec.{eqb}
 use lib.ListN.{length, take}
@@ -15,7 +14,7 @@ use Rattle.rules.specs.Refusals.{number_of}
 use Rattle.rules.specs.Parameters.{record_words}
 use Rattle.rules.specs.WholeBeat.{table_after}
 use Rattle.rules.specs.Calls.{beat_out}
-use Rattle.rules.specs.RunFile.{Header, start_words, beat_words}
+use Rattle.rules.specs.RunFile.{Header, header_tests, start_words, beat_words}
 use Rattle.rules.specs.RunFile.{Stage, at_header, Taken, accepted, header_refusal, or_refused, take_line}
 use Rattle.rules.proofs.Numbers.{number_not_0}
 use Rattle.rules.proofs.Tests.{decided}
@@ -24,12 +23,11 @@ use Rattle.rules.proofs.Records.{record_length}
 use Rattle.rules.proofs.RunFiles.{beat_passed}
 use Rattle.rack.specs.declared.Rack.{Rack}
 use Rattle.frames.specs.Headers.{said}
-use Rattle.frames.proofs.Headers.{start_most}
 use Rattle.runfile.specs.declared.Stage.{Stage as KeptStage}
 use Rattle.runfile.specs.declared.Stage.TheVariants.{AtHeader, AtStart, AtBeat}
 use Rattle.runfile.specs.declared.Taken.{Taken as KeptTaken}
 use Rattle.runfile.specs.Runs.{stage_of, kept_of, table_of, kept_tests, stage_tests, taken_line}
-use Rattle.runfile.specs.Runs.{Running, records_after, table_next, refusal_in, answer_of, table_in, text_in, Answers, Takes}
+use Rattle.runfile.specs.Runs.{records_after, table_next, refusal_in, answer_of, table_in, text_in, Answers, Takes}
 
 -- a line is refused by the refusal that the rules give
 pub refused_answers : (stage : KeptStage) (number : ℕ) (e : Refusal) (t : Taken) → number_of e ≡ number
@@ -77,11 +75,6 @@ pub taken_is : (stage : Stage) (line : List ℕ) → stage_tests stage ≡ 0 →
 unfolding taken_line or_refused
 taken_is stage line e = rw e
 
--- where a kept run passes them, a line is taken as the rules say
-pub passed : (stage : KeptStage) (table line : List ℕ) → kept_tests stage ≡ 0
-    → taken_line (stage_of stage table) line ≡ take_line (stage_of stage table) line
-passed stage table line e = taken_is (stage_of stage table) line (tests_kept stage table ∙ e)
-
 -- line 1 leaves the buffers as they are
 header_writes : (line : List ℕ) → (table_in (take_line at_header line) ≡ []) × (text_in (take_line at_header line) ≡ [])
 unfolding take_line or_refused table_in text_in table_of
@@ -104,24 +97,31 @@ after_length h held sent = rows_length h.n (record_words h.f) _ (λ v l. record_
 pub next_length : (h : Header) (table line : List ℕ) → length (table_next h table line) ≡ start_words h
 next_length h table line = after_length h _ _
 
--- where the run is known, the line is taken as the rules say
+-- where the run is known and passes its tests, a line is taken as the rules say
 pub takes_as : (stage known : KeptStage) (table line out : List ℕ) (r : Result KeptTaken Refusal) (table_next out_next : List ℕ)
-    → stage ≡ known → kept_tests stage ≡ 0
+    → stage ≡ known → kept_tests known ≡ 0
     → Takes known (take_line (stage_of known table) line) table out r table_next out_next
     → Takes stage (taken_line (stage_of stage table) line) table out r table_next out_next
-takes_as stage known table line out r table_next out_next e z t = rw (e, passed known table line (rw e at z)) t
+takes_as stage known table line out r table_next out_next e z t =
+    rw (e, taken_is (stage_of known table) line (tests_kept known table ∙ z)) t
+
+-- and where it does not pass them, it is refused by their number
+pub untested : (stage known : KeptStage) (table line out : List ℕ) (e : Refusal) → stage ≡ known → number_of e ≡ kept_tests known
+    → Takes stage (taken_line (stage_of stage table) line) table out (Err e) table out
+unfolding taken_line
+untested stage known table line out e k n =
+    rw k (refused_takes known _ e (take_line (stage_of known table) line) table out (n ∙ sym (tests_kept known table)))
 
 -- a whole beat on the records of a rack that passes its tests: they are those after it, as many as before
-pub beat_done : (rack : Rack) (table sent blank next : List ℕ) (words : ℕ) → Running rack table → words ≡ start_words (said rack)
-    → length sent ≡ beat_words (said rack) → words ≤ length blank
+pub beat_done : (rack : Rack) (table sent blank next : List ℕ) (words : ℕ) → header_tests (said rack) ≡ 0 → words ≡ start_words (said rack)
+    → length sent ≡ beat_words (said rack) → words ≤ length table → words ≤ length blank
     → next ≡ beat_out rack.counter.n rack.counter.f rack.counter.c rack.set (take words table) sent (take words blank)
     → (next ≡ records_after (said rack) table sent) × (length next ≡ words)
 unfolding beat_out
-beat_done rack table sent blank next words r e q l n =
+beat_done rack table sent blank next words p e q l m n =
     let h = said rack in
-    let most = start_most h r.passes in
-    let held = length-take-le words table (omega (arith, r.room)) in
-    let out = length-take-le words blank l in
+    let held = length-take-le words table l in
+    let out = length-take-le words blank m in
     let all : next ≡ table_after h.n h.f h.c h.set (take words table) sent =
-    n ∙ rw (beat_passed h r.passes (length (take words table)) (length sent) (length (take words blank)) (held ∙ e) q (out ∙ e)) in
+    n ∙ rw (beat_passed h p (length (take words table)) (length sent) (length (take words blank)) (held ∙ e) q (out ∙ e)) in
     (rw e at all, ap length all ∙ after_length h (take words table) sent ∙ sym e)

@@ -1,5 +1,5 @@
 -- A run as it is kept, in a struct and in the caller's table, by the rules' own runs.
-use Rattle.std.specs.Prelude.{ℕ, ◌≤◌, ◌≡◌, List, [], length, take, Result}
+use Rattle.std.specs.Prelude.{ℕ, ◌≡◌, List, [], length, take, Result}
 use Rattle.std.proofs.lemmas.List.Edits.{sets}
 use Rattle.rules.specs.WholeBeat.{table_after}
 use Rattle.rules.specs.Text.{words_at}
@@ -7,16 +7,10 @@ use Rattle.rules.specs.RunFile.{Header, header_tests, start_words, beat_words}
 use Rattle.rules.specs.RunFile.{Stage, at_header, at_start, at_beat, Taken, accepted, refused, or_refused, take_line}
 use Rattle.rules.specs.Refusals.{number_in, value_in}
 use Rattle.rules.specs.declared.Refusal.{Refusal}
-use Rattle.rack.specs.declared.Rack.{Rack}
 use Rattle.frames.specs.Headers.{said, kept}
 use Rattle.runfile.specs.declared.Stage.{Stage as KeptStage}
 use Rattle.runfile.specs.declared.Stage.TheVariants.{AtHeader, AtStart, AtBeat}
 use Rattle.runfile.specs.declared.Taken.{Taken as KeptTaken}
-
--- a run past line 1: its header passes its tests, and the table has room for any rack
-pub record Running (rack : Rack) (table : List ℕ) : Type 0 where
-  pub passes : header_tests (said rack) ≡ 0
-  pub room : 400 ≤ length table
 
 -- where the run stands: the n records are the first words of the table
 unfoldable pub stage_of : KeptStage → List ℕ → Stage

@@ -23,32 +23,29 @@ returns-in_err-beat_line_refusal c =
 pub next_table-requires : goal.next_table-requires
 next_table-requires c =
     let a = c.args in
-    (c.requires, (beat_formed (said a.rack) a.beat a.line.now (sym c.in_ok-beat_line_refusal.ensures)).0)
+    (c.requires, (beat_formed (said a.header.rack) a.beat a.line.now (sym c.in_ok-beat_line_refusal.ensures)).0)
 
 pub overflow_add-next : goal.overflow_add-next
 overflow_add-next c =
     let a = c.args in
-    omega (arith, beat_formed (said a.rack) a.beat a.line.now (sym c.in_ok-beat_line_refusal.ensures))
+    omega (arith, beat_formed (said a.header.rack) a.beat a.line.now (sym c.in_ok-beat_line_refusal.ensures))
 
 pub put_line-requires : goal.put_line-requires
 put_line-requires c =
-    record {
-      passes = c.requires.passes;
-      room = omega (arith, start_most (said c.args.rack) c.requires.passes, c.requires.room, c.next_table.auto.table);
-    }
+    omega (arith, start_most (said c.args.header.rack) c.args.header.passes, c.requires, c.next_table.auto.table)
 
 pub returns : goal.returns
 unfolding take_line stage_of kept_of table_of
 returns c =
     let a = c.args in
-    let h = said a.rack in
+    let h = said a.header.rack in
     let table = a.table.now in
     let line = a.line.now in
     let next = a.beat + 1 in
     let records = table_next h table line in
-    let fits : start_words h ≤ length table = omega (arith, start_most h c.requires.passes, c.requires.room) in
+    let fits : start_words h ≤ length table = omega (arith, start_most h c.args.header.passes, c.requires) in
     let text : output_line h next c.next_table.new.table ≡ output_line h next records =
     rw c.next_table.ensures (line_of_stored h next table records (next_length h table line) fits) in
-    accepted_takes (AtBeat a.rack a.beat) (beat_line_refusal h a.beat line) (at_beat h next records) (output_line h next records)
+    accepted_takes (AtBeat a.header.rack a.beat) (beat_line_refusal h a.beat line) (at_beat h next records) (output_line h next records)
     table a.out.now _ _ _ (sym c.in_ok-beat_line_refusal.ensures) c.next_table.ensures
     (c.put_line.ensures.1 ∙ rw text) (c.put_line.ensures.0 ∙ ap length text)
