@@ -77,7 +77,7 @@ impl Column<'_> {
         }
     }
 
-    // RULES 5.2: "the most frequent output among the cards of half i", with a tally as long as the modulus.
+    // RULES 5.2: "the most frequent output among the cards of half i", with a tally that has room for the modulus.
     pub fn most_frequent(self, m: usize) -> u16
         requires { MostFrequentAsks self m }
         ensures { result ≡ most_frequent m self.entry.n (votes_in m self.entry) }

@@ -1,7 +1,7 @@
 // A run file (RULES 11) in pieces, cut anywhere: the characters of an unfinished line are held in the run.
 #![tactic(auto)]
 
-ghost use Rattle.std.specs.Prelude.{◌≡◌, [], ◌+◌, ◌-◌, ◌≤◌, min, length, take, drop, replicate};
+ghost use Rattle.std.specs.Prelude.{◌≡◌, [], ◌+◌, ◌-◌, min, length, take, replicate};
 ghost use Rattle.std.proofs.lemmas.List.Edits.{sets};
 ghost use Rattle.runfile.specs.Runs.{stage_of};
 ghost use Rattle.feed.specs.Feeds.{longest, ended};
@@ -88,9 +88,8 @@ fn put_missing(stage: Stage, out: &mut [u8; 69]) -> usize
     ensures { (result ≡ length (missing stage)) × (out.new ≡ sets out.old 0 (missing stage)) }
 {
     match stage {
-        Stage::AtHeader => put_refusal(1, u32::from(Refusal::Text), out),
-        Stage::AtStart(_) => put_refusal(2, u32::from(Refusal::Text), out),
         Stage::AtBeat(..) => 0,
+        _ => put_refusal(line_number(stage), u32::from(Refusal::Text), out),
     }
 }
 

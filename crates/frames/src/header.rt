@@ -51,7 +51,7 @@ pub fn header_refusal(line: &[u8]) -> Result<(), Refusal>
     header_tests(header_of(line))
 }
 
-// What line 1 says, where it is not refused: so a later line needs no test of it.
+// What line 1 says, where it is not refused.
 #[derive(Clone, Copy)]
 pub struct Header {
     pub rack: Rack,
@@ -59,7 +59,7 @@ pub struct Header {
 }
 
 impl Header {
-    // The one place that makes a header.
+    // The header of a rack that passes the tests of line 1, and the refusal of any other.
     pub fn of(rack: Rack) -> Result<Header, Refusal>
         ensures { (number_in result ≡ header_tests (said rack)) × IfOk result (λ header. header.rack ≡ rack) }
     {

@@ -28,7 +28,7 @@ fn shown_word(header: Header, table: &[u16], v: u32) -> u16
     u16::from(shown.unwrap_or(Vote::Count(0)))
 }
 
-// Writes the line of an accepted frame: the beat and the shown counts.
+// Writes the line of an accepted frame, the beat and the shown counts, into the caller's fixed buffer, and returns its length.
 pub fn put_line(header: Header, beat: u16, table: &[u16], out: &mut [u8; 69]) -> usize
     requires { start_words (said header.rack) ≤ length table.now }
     ensures { (result ≡ length (output_line (said header.rack) beat table.now))
@@ -45,8 +45,8 @@ pub fn put_line(header: Header, beat: u16, table: &[u16], out: &mut [u8; 69]) ->
     end + 1
 }
 
-// Writes the line of a refusal, and returns its length: "ffff, the number of the line (8 digits) and the refusal (2 digits)"
-// (RULES 11.5).
+// Writes the line of a refusal, for any number, and returns its length: "ffff, the number of the line (8 digits) and the refusal (2
+// digits)" (RULES 11.5).
 pub fn put_refusal(number: u32, refusal: u32, out: &mut [u8; 69]) -> usize
     ensures { (result ≡ length (refusal_line number refusal))
         × (out.new ≡ sets out.old 0 (refusal_line number refusal)) }

@@ -5,6 +5,7 @@ ghost use Rattle.level.specs.Groups.{column_of, half_group, HalfAsks};
 use columns::Column;
 
 // A group of n cards in a table `recs` of records of w words: the cards from `first` on, and their words from `base` on.
+// That it lies within the table is a clause and no invariant: `column` and `half` require less.
 #[derive(Clone, Copy)]
 pub struct Group<'a> {
     pub recs: &'a [u16],

@@ -15,7 +15,7 @@ use params::Row;
 use rules::Vote;
 use steps::{Standing, pointer};
 
-// What a card keeps of a split group, m0 m1 M0 M1 w0 w1 a b, as RULES 4.2 reads the words.
+// What a card keeps of a split group, as RULES 4.2 reads its words. The fields are the eight words of RULES 4.1, in their order.
 #[derive(Clone, Copy)]
 pub struct Level {
     pub m0: u16,

@@ -34,7 +34,7 @@ impl Rack {
         let n = self.counter.n;
         let w = params::record_words(self.counter.f) as usize;
         let count = broken::broken_below(self.set, n);
-        let mut k = 0;
+        let mut k = 0; // how many broken cards were met
         for u in 0..n {
             if broken::is_broken(self.set, u) {
                 let at = (v * count + k) as usize * w;

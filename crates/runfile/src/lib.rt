@@ -106,7 +106,8 @@ fn take_beat(
     })
 }
 
-// One line, with a table that is long enough for any rack. A run that no line 1 leads to is refused by the number of its header.
+// One line, with a table that is long enough for any rack: `take_line` is the same for an array. A run that no line 1 leads to is
+// refused by the number of what it holds for line 1.
 pub fn line_taken(
     stage: Stage,
     line: &[u8],

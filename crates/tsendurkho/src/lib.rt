@@ -3,7 +3,7 @@
 #![tactic(auto)]
 
 ghost use Rattle.std.specs.Prelude.{◌≡◌, ◌*◌, ◌≤◌, length};
-ghost use Rattle.rules.specs.Refusals.{step_bytes_refusal, lag_refusal, number_in};
+ghost use Rattle.rules.specs.Refusals.{step_bytes_refusal, lag_refusal};
 ghost use Rattle.rules.specs.Calls.{step_bytes_out, lag_answer};
 
 use params::Counter;
@@ -13,7 +13,7 @@ use rules::Refusal;
 const BYTES: u8 = 2;
 
 // W of the largest f, and n·W of the largest n.
-const MOST_WORDS: usize = 25;
+const MOST_RECORD: usize = 25;
 
 const MOST_TABLE: usize = 400;
 
@@ -30,7 +30,7 @@ fn step_within<const TABLE: usize>(counter: Counter, card: u32, records: &[u8], 
 {
     let mut heard = [0u16; TABLE];
     let heard = &mut heard[..records.len() / 2];
-    let mut next = [0u16; MOST_WORDS];
+    let mut next = [0u16; MOST_RECORD];
     let next = &mut next[..out.len() / 2];
     wordbytes::decode(records, heard);
     card::put_next(counter, card, heard, next);
