@@ -1,7 +1,7 @@
 -- Laws of digits: a digit and its value, a number and its digits, over the number of digits.
 use mathlib.Core.Path.{◌≡◌, refl, sym, ap, ◌∙◌}
 use mathlib.Core.Logic.{◌⊎◌, inl, inr, ⊎_elim}
-use mathlib.Core.Bool.{Bool, true, false, ◌&&◌, ◌||◌}
+use mathlib.Core.Bool.{true, ◌&&◌}
 use mathlib.Core.List.{List, [], ◌∷◌, ◌++◌}
 use Prim.Native.Nat.{ℕ, zero, suc, ◌+◌, ◌*◌, ◌-◌, ◌/◌, ◌%◌, ◌^◌, ◌≤◌, ◌<◌}
 use native.Mathlib.Nat.{lt_of_lt_of_le, pow-suc, pow-succ', pow-le-pow_right, div-div-eq-div-mul}
@@ -11,10 +11,12 @@ use borrow.Author.Tests.{lt-ltb, le-ltb, le-leb, lt-leb, leb-true, eqb-true}
 use lib.Dec.{leb, eqb}
 use lib.ListN.{length, get_or, take, drop, length-drop}
 use lib.Seq.{take-suc, get_or-drop, get_or_at}
+use Rattle.std.proofs.lemmas.Bool.{and_parts, and_from, or_cases}
+use Rattle.std.proofs.lemmas.List.{get_or_append_left}
 use Rattle.rules.specs.Counting.{rows}
 use Rattle.rules.specs.Text.{digit_of, is_digit, value_of, hex_of, number_at, all_digits, well_formed}
-use Rattle.rules.proofs.Tests.{le_or_lt, and_left, and_right, and_both}
-use Rattle.rules.proofs.Lists.{before_seam, rows_same, tabulate_length, tabulate_at}
+use Rattle.rules.proofs.Tests.{le_or_lt}
+use Rattle.rules.proofs.Lists.{rows_same, tabulate_length, tabulate_at}
 
 -- a value below 16 is that of its digit
 pub value_of_digit : (x : ℕ) → x < 16 → value_of (digit_of x) ≡ x
@@ -33,13 +35,8 @@ digit_is x l = ⊎_elim
     (λ (h : x < 10). rw (lt-ltb x 10 h, le-leb 48 (48 + x) (omega arith), le-leb (48 + x) 57 (omega arith)))
     (le_or_lt 10 x)
 
-either : (s t : Bool) → (s || t) ≡ true → (s ≡ true) ⊎ (t ≡ true)
-either true t e = inl refl
-either false t e = inr e
-
 in_range : (low ch high : ℕ) → leb low ch && leb ch high ≡ true → (low ≤ ch) × (ch ≤ high)
-in_range low ch high e =
-    (leb-true low ch (and_left (leb low ch) (leb ch high) e), leb-true ch high (and_right (leb low ch) (leb ch high) e))
+in_range low ch high e = let both = and_parts (leb low ch) (leb ch high) e in (leb-true low ch both.0, leb-true ch high both.1)
 
 -- the two ranges of digits
 pub digit_cases : (ch : ℕ) → is_digit ch ≡ true → ((48 ≤ ch) × (ch ≤ 57)) ⊎ ((97 ≤ ch) × (ch ≤ 102))
@@ -47,7 +44,7 @@ unfolding is_digit
 digit_cases ch e = ⊎_elim
     (λ p. inl (in_range 48 ch 57 p))
     (λ p. inr (in_range 97 ch 102 p))
-    (either (leb 48 ch && leb ch 57) (leb 97 ch && leb ch 102) e)
+    (or_cases (leb 48 ch && leb ch 57) (leb 97 ch && leb ch 102) e)
 
 pub value_below : (ch : ℕ) → is_digit ch ≡ true → value_of ch < 16
 unfolding value_of
@@ -68,22 +65,22 @@ digit_of_value ch e = ⊎_elim
 pub digit_at : (text : List ℕ) → all_digits text ≡ true → (i : ℕ) → i < length text → is_digit (get_or text i 0) ≡ true
 unfolding all_digits
 digit_at [] e i l = absurd (omega arith)
-digit_at (ch ∷ rest) e zero l = and_left (is_digit ch) (all_digits rest) e
-digit_at (ch ∷ rest) e (suc i) l = digit_at rest (and_right (is_digit ch) (all_digits rest) e) i (omega arith)
+digit_at (ch ∷ rest) e zero l = (and_parts (is_digit ch) (all_digits rest) e).0
+digit_at (ch ∷ rest) e (suc i) l = digit_at rest (and_parts (is_digit ch) (all_digits rest) e).1 i (omega arith)
 
 pub digits_all : (text : List ℕ) → ((i : ℕ) → i < length text → is_digit (get_or text i 0) ≡ true) → all_digits text ≡ true
 unfolding all_digits
 digits_all [] h = refl
 digits_all (ch ∷ rest) h =
-    and_both (is_digit ch) (all_digits rest) (h 0 (omega arith)) (digits_all rest (λ i l. h (suc i) (omega arith)))
+    and_from (is_digit ch) (all_digits rest) (h 0 (omega arith)) (digits_all rest (λ i l. h (suc i) (omega arith)))
 
 -- texts of digits, one after the other
 pub digits_append : (s t : List ℕ) → all_digits s ≡ true → all_digits t ≡ true → all_digits (s ++ t) ≡ true
 unfolding all_digits
 digits_append [] t p q = q
 digits_append (ch ∷ s) t p q =
-    and_both (is_digit ch) (all_digits (s ++ t)) (and_left (is_digit ch) (all_digits s) p)
-    (digits_append s t (and_right (is_digit ch) (all_digits s) p) q)
+    let both = and_parts (is_digit ch) (all_digits s) p in
+    and_from (is_digit ch) (all_digits (s ++ t)) both.0 (digits_append s t both.1 q)
 
 pub digits_rows : (n : ℕ) (g : ℕ → List ℕ) → ((i : ℕ) → all_digits (g i) ≡ true) → all_digits (rows n g) ≡ true
 unfolding all_digits rows
@@ -94,8 +91,8 @@ digits_rows (suc n) g h = digits_append (rows n g) (g n) (digits_rows n g h) (h 
 pub formed : (size : ℕ) (text : List ℕ) → well_formed size text ≡ true → (length text ≡ size) × (all_digits text ≡ true)
 unfolding well_formed
 formed size text e =
-    let long = eqb (length text) size in
-    (eqb-true (length text) size (and_left long (all_digits text) e), and_right long (all_digits text) e)
+    let both = and_parts (eqb (length text) size) (all_digits text) e in
+    (eqb-true (length text) size both.0, both.1)
 
 -- the last digit of a number, and the digits of the rest
 pub hex_last : (k x : ℕ) → hex_of (suc k) x ≡ hex_of k (x / 16) ++ (digit_of (x % 16) ∷ [])
@@ -136,7 +133,7 @@ number_same s t a b (suc k) h = rw (number_same s t a b k (λ j l. h j (omega ar
 
 -- and what comes behind them does not
 pub number_front : (s t : List ℕ) (k : ℕ) → k ≤ length s → number_at (s ++ t) 0 k ≡ number_at s 0 k
-number_front s t k h = number_same (s ++ t) s 0 0 k (λ j l. before_seam s t (0 + j) (omega arith))
+number_front s t k h = number_same (s ++ t) s 0 0 k (λ j l. get_or_append_left s t 0 (0 + j) (omega arith))
 
 -- k digits make a number below 16 ^ k
 pub number_below : (text : List ℕ) (at k : ℕ) → all_digits text ≡ true → at + k ≤ length text → number_at text at k < 16 ^ k

@@ -1,23 +1,33 @@
 -- Laws of a part of a text, as `&text[a..b]` reads: n characters from the place a on.
 use Rattle.std.proofs.Common.{◌≡◌, List, ℕ, [], ◌∷◌, ◌+◌, ◌*◌, ◌≤◌, ◌<◌, true, length, get_or, take, drop, eqb}
-use Rattle.std.proofs.Common.{ap, ◌∙◌, arith, zero-add, length-drop}
+use Rattle.std.proofs.Common.{zero, suc, refl, ap, ◌∙◌, arith, zero-add}
+use Rattle.std.proofs.lemmas.Bool.{and_parts, and_from}
 use borrow.Author.Tests.{eq-eqb}
-use lib.Seq.{get_or-take, get_or-drop, length-take-le}
-use Rattle.rules.specs.Text.{number_at, all_digits, well_formed, words_at}
-use Rattle.rules.proofs.Lists.{rows_same}
-use Rattle.rules.proofs.Tests.{and_both}
-use Rattle.digits.proofs.Hexadecimal.{digit_at, digits_all, formed, number_same}
-
-pub part_length : (text : List ℕ) (a n : ℕ) → a + n ≤ length text → length (take n (drop a text)) ≡ n
-part_length text a n l = length-take-le n (drop a text) (omega (arith, length-drop a text))
+use lib.Seq.{get_or-take, get_or-drop}
+use Rattle.rules.specs.Text.{number_at, is_digit, all_digits, well_formed, words_at}
+use Rattle.rules.proofs.Lists.{part_length, rows_same}
+use Rattle.digits.proofs.Hexadecimal.{formed, number_same}
 
 pub part_at : (text : List ℕ) (a n j : ℕ) → j < n → get_or (take n (drop a text)) j 0 ≡ get_or text (a + j) 0
 part_at text a n j l = get_or-take n (drop a text) j 0 l ∙ get_or-drop a text j 0
 
-pub digits_part : (text : List ℕ) (a n : ℕ) → all_digits text ≡ true → a + n ≤ length text → all_digits (take n (drop a text)) ≡ true
-digits_part text a n e l =
-    let m = part_length text a n l in
-    digits_all (take n (drop a text)) (λ i h. rw (part_at text a n i (omega arith)) (digit_at text e (a + i) (omega arith)))
+-- what is cut from digits is digits
+digits_from : (at : ℕ) (text : List ℕ) → all_digits text ≡ true → all_digits (drop at text) ≡ true
+unfolding all_digits
+digits_from zero text e = e
+digits_from (suc at) [] e = refl
+digits_from (suc at) (ch ∷ rest) e = digits_from at rest (and_parts (is_digit ch) (all_digits rest) e).1
+
+digits_below : (k : ℕ) (text : List ℕ) → all_digits text ≡ true → all_digits (take k text) ≡ true
+unfolding all_digits
+digits_below zero text e = refl
+digits_below (suc k) [] e = refl
+digits_below (suc k) (ch ∷ rest) e =
+    let both = and_parts (is_digit ch) (all_digits rest) e in
+    and_from (is_digit ch) (all_digits (take k rest)) both.0 (digits_below k rest both.1)
+
+pub digits_cut : (at k : ℕ) (text : List ℕ) → all_digits text ≡ true → all_digits (take k (drop at text)) ≡ true
+digits_cut at k text e = digits_below k (drop at text) (digits_from at text e)
 
 -- a part of a text that is not refused by 10 is not either
 pub formed_part : (size : ℕ) (text : List ℕ) (a n k : ℕ) → well_formed size text ≡ true → n ≡ k → a + k ≤ size
@@ -27,7 +37,7 @@ formed_part size text a n k e m l =
     let t = formed size text e in
     let part = take n (drop a text) in
     let long : length part ≡ k = part_length text a n (omega arith) ∙ m in
-    and_both (eqb (length part) k) (all_digits part) (eq-eqb _ _ long) (digits_part text a n t.1 (omega arith))
+    and_from (eqb (length part) k) (all_digits part) (eq-eqb _ _ long) (digits_cut a n text t.1)
 
 -- what `number_of` makes of a part
 pub number_part : (text : List ℕ) (a n k : ℕ) → n ≡ k → a + k ≤ length text

@@ -6,6 +6,7 @@ use mathlib.Core.List.{List, [], ◌∷◌, ◌++◌}
 use Prim.Native.Nat.{ℕ, ◌+◌, ◌*◌, ◌≤◌, ◌<◌}
 use native.Mathlib.Omega.{arith}
 use borrow.Author.Tests.{ne_eqb, eq-eqb}
+use Rattle.std.proofs.lemmas.Bool.{and_parts, and_from}
 use lib.Dec.{eqb}
 use lib.ListN.{length, length-append}
 use lib.Seq.{append_snoc}
@@ -14,7 +15,6 @@ use Rattle.rules.specs.Parameters.{none_word}
 use Rattle.rules.specs.WholeBeat.{is_broken}
 use Rattle.rules.specs.Text.{hex_of, is_digit, all_digits, well_formed, line_feed, lines_of}
 use Rattle.rules.specs.RunFile.{Header, frame_digits, beat_of, last_beat, shown_word, output_line, refusal_line}
-use Rattle.rules.proofs.Tests.{and_left, and_right, and_both}
 use Rattle.rules.proofs.Lists.{behind_seam, rows_length, rows_at}
 use Rattle.rules.proofs.Lines.{no_feed, no_lines, line_first}
 use Rattle.digits.proofs.Hexadecimal.{digit_cases, digits_append, digits_rows, hex_length, hex_digits}
@@ -25,13 +25,14 @@ use Rattle.end_to_end.specs.RunFiles.{card_word, Shows}
 digits_no_feed : (text : List ℕ) → all_digits text ≡ true → no_feed text
 unfolding all_digits no_feed
 digits_no_feed [] e = tt
-digits_no_feed (ch ∷ text) e = (
-  ⊎_elim
-      (λ (p : (48 ≤ ch) × (ch ≤ 57)). ne_eqb ch line_feed (omega arith))
-      (λ (p : (97 ≤ ch) × (ch ≤ 102)). ne_eqb ch line_feed (omega arith))
-      (digit_cases ch (and_left (is_digit ch) (all_digits text) e)),
-  digits_no_feed text (and_right (is_digit ch) (all_digits text) e),
-)
+digits_no_feed (ch ∷ text) e =
+    let both = and_parts (is_digit ch) (all_digits text) e in (
+      ⊎_elim
+          (λ (p : (48 ≤ ch) × (ch ≤ 57)). ne_eqb ch line_feed (omega arith))
+          (λ (p : (97 ≤ ch) × (ch ≤ 102)). ne_eqb ch line_feed (omega arith))
+          (digit_cases ch both.0),
+      digits_no_feed text both.1,
+    )
 
 -- a text of digits that a line feed ends is one line
 one_line : (line rest : List ℕ) → all_digits line ≡ true → lines_of (line ++ (line_feed ∷ rest)) ≡ line ∷ lines_of rest
@@ -52,7 +53,7 @@ module _ (n beat : ℕ) (word : ℕ → ℕ) where
   unfolding well_formed
   frame_formed =
       let size = length-append (hex_of 4 beat) (rows n (λ (v : ℕ). hex_of 4 (word v))) in
-      and_both (eqb _ (frame_digits n)) _
+      and_from (eqb _ (frame_digits n)) _
       (eq-eqb _ (frame_digits n) (omega (arith, size, hex_length 4 beat, words_length)))
       frame_digits_lem
 

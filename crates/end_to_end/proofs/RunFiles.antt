@@ -1,7 +1,7 @@
 -- The lines that are written for a run file show the counts of its whole beats, and so settle at T(f).
 use mathlib.Core.Path.{◌≡◌, refl, sym, ap, ◌∙◌}
 use mathlib.Core.Logic.{⊎_elim}
-use mathlib.Core.Bool.{Bool, true, false, not}
+use mathlib.Core.Bool.{Bool, true, false, not, true≢false, false≢true}
 use mathlib.Core.List.{List, [], ◌∷◌}
 use Prim.Native.Nat.{ℕ, zero, suc, ◌+◌, ◌%◌, ◌≤◌, ◌<◌}
 use native.Mathlib.Nat.{zero-add, add-zero, mod-lt}
@@ -18,7 +18,7 @@ use Rattle.rules.specs.RunFile.{Header, header_tests, header_digits, header_of, 
 use Rattle.rules.specs.RunFile.{start_line_refusal, beat_line_refusal, shown_word, output_line, refusal_line, Stage, at_header}
 use Rattle.rules.specs.RunFile.{at_start, at_beat}
 use Rattle.rules.specs.RunFile.{accepted, or_refused, take_line, at_end, continued, run_lines, run_text}
-use Rattle.rules.proofs.Tests.{decided, never}
+use Rattle.rules.proofs.Tests.{decided}
 use Rattle.rules.proofs.Shapes.{not_given, counter_accepted}
 use Rattle.rules.proofs.Lines.{no_lines, line_at_lem}
 use Rattle.rules.proofs.RunFiles.{beat_passed, beat_formed}
@@ -88,7 +88,7 @@ module _ (h : Header) (line : ℕ → List ℕ) where
       let r = refusal_alone k why in
       rw r.1
       (record {
-        whole = λ e. absurd (never (sym e));
+        whole = λ e. absurd (false≢true e);
         at = first_and_others b false r.0 [] (refusal r.2 refl) (λ i l. absurd (omega arith));
       })
 
@@ -154,10 +154,10 @@ header_tests_lem line e = (not_given 10 (not (well_formed header_digits line)) _
 -- a file that is accepted to its end has a good line 1
 header_accepted : (lines : List (List ℕ)) → accepted_from lines at_header ≡ true → header_refusal (get_or lines 0 []) ≡ 0
 unfolding accepted_from take_line or_refused and_others may_end
-header_accepted [] e = absurd (never (sym e))
+header_accepted [] e = absurd (false≢true e)
 header_accepted (l ∷ left) e = ⊎_elim
     (λ (z : eqb (header_refusal l) 0 ≡ true). eqb-true (header_refusal l) 0 z)
-    (λ (z : eqb (header_refusal l) 0 ≡ false). absurd (never (sym (rw z at e))))
+    (λ (z : eqb (header_refusal l) 0 ≡ false). absurd (false≢true (rw z at e)))
     (decided (eqb (header_refusal l) 0))
 
 -- The same of a whole file, where a line is known to be no refusal: by its own beat, or by the file
@@ -193,4 +193,4 @@ settles_in_accepted_files text good =
     let passed = header_accepted (lines_of text) good in
     let o = file_output (lines_of text) passed in
     let s = file_settles (lines_of text) passed in
-    rw (line_at_lem 0 text) (omega (arith, o.2.whole good), (s.0, s.1, λ k l. s.2 k l (λ p g. never (sym good ∙ g))))
+    rw (line_at_lem 0 text) (omega (arith, o.2.whole good), (s.0, s.1, λ k l. s.2 k l (λ p g. true≢false (sym good ∙ g))))

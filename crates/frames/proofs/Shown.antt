@@ -2,8 +2,7 @@
 use mathlib.Core.Path.{◌≡◌, refl, sym, ◌∙◌}
 use mathlib.Core.Bool.{Bool, true, false}
 use mathlib.Core.List.{List, [], ◌∷◌, ◌++◌}
-use Prim.Native.Nat.{ℕ, suc, ◌+◌, ◌*◌, ◌≤◌, ◌<◌}
-use native.Mathlib.Nat.{mul-le-mul, suc-mul}
+use Prim.Native.Nat.{ℕ, ◌+◌, ◌*◌, ◌≤◌, ◌<◌}
 use native.Mathlib.Omega.{arith}
 use borrow.Author.Tests.{eq-eqb}
 use borrow.Rule.Slice.PartMut.{put_mid, mid_of}
@@ -23,19 +22,13 @@ use Rattle.rules.specs.Refusals.{given, wrong, counter_refusal, value_in}
 use Rattle.rules.specs.Calls.{shown_answer}
 use Rattle.rules.specs.Text.{hex_of, line_feed}
 use Rattle.rules.specs.RunFile.{Header, header_tests, start_words, shown_word, output_line, refusal_line}
-use Rattle.rules.proofs.Lists.{part_back, rows_length, rows_same}
+use Rattle.rules.proofs.Lists.{part_length, part_back, rows_length, rows_same}
 use Rattle.rules.proofs.Records.{output_inside}
 use Rattle.rules.proofs.Shapes.{counter_passed}
 use Rattle.digits.proofs.Hexadecimal.{hex_length}
-use Rattle.digits.proofs.Parts.{part_length}
 use Rattle.digits.proofs.Stores.{sets_append}
+use Rattle.rack.proofs.Accepted.{record_inside}
 use Rattle.frames.proofs.Stores.{first_stored}
-
--- a record of the table
-pub row_inside : (n w v : ℕ) → v < n → v * w + w ≤ n * w
-row_inside n w v l =
-    let p : suc v * w ≤ n * w = mul-le-mul (omega arith) (omega arith) in
-    omega (arith, suc-mul v w)
 
 -- refusals 1 to 3 are not given
 counter_part : (s t u b : Bool) → given 1 s (given 2 t (given 3 u (given 7 b 0))) ≡ 0 → given 1 s (given 2 t (given 3 u 0)) ≡ 0
@@ -142,7 +135,7 @@ pub line_same : (h : Header) (beat : ℕ) (s t : List ℕ) → ((j : ℕ) → j 
 unfolding output_line shown_word shown_count
 line_same h beat s t e =
     rw (rows_same h.n (shown_text h s) (shown_text h t) (λ v l.
-    rw (e (v * record_words h.f + output_place h.f) (omega (arith, row_inside h.n (record_words h.f) v l, output_inside h.f)))))
+    rw (e (v * record_words h.f + output_place h.f) (omega (arith, record_inside v h.n (record_words h.f) l, output_inside h.f)))))
 
 -- the line of a table that is stored in a buffer
 pub line_of_stored : (h : Header) (beat : ℕ) (buffer table : List ℕ) → length table ≡ start_words h → start_words h ≤ length buffer

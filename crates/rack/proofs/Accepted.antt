@@ -16,7 +16,7 @@ use Rattle.rack.specs.Racks.{size, Accepted}
 use Rattle.rack.proofs.BrokenSet.{broken_most, broken_before}
 
 -- a record lies within its table
-record_inside : (v n w : ℕ) → v < n → v * w + w ≤ n * w
+pub record_inside : (v n w : ℕ) → v < n → v * w + w ≤ n * w
 record_inside v n w l = rw (← suc-mul v w) (mul-le-mul_right w l)
 
 -- the words that broken cards send are few

@@ -1,7 +1,7 @@
 -- The table of a receiver: sound cards as held, broken cards as they send to it.
 use mathlib.Core.Path.{◌≡◌, sym, ap, ◌∙◌}
 use mathlib.Core.Logic.{⊎_elim}
-use mathlib.Core.Bool.{true, false}
+use mathlib.Core.Bool.{true, false, true≢false}
 use mathlib.Core.List.{List}
 use Prim.Native.Nat.{ℕ, ◌+◌, ◌*◌, ◌≤◌, ◌<◌}
 use native.Mathlib.Omega.{arith}
@@ -10,7 +10,7 @@ use lib.ListN.{length}
 use lib.Seq.{sets}
 use Rattle.rules.specs.Groups.{place, heard_in}
 use Rattle.rules.specs.WholeBeat.{is_broken, broken_below, heard_on_beat}
-use Rattle.rules.proofs.Tests.{decided, never}
+use Rattle.rules.proofs.Tests.{decided}
 use Rattle.rules.proofs.Lists.{tabulate_at, tabulate_length}
 use Rattle.rack.specs.declared.Rack.{Rack}
 use Rattle.rack.specs.Racks.{words_from, size, SoundAsHeld, BrokenAsSent}
@@ -37,7 +37,7 @@ module _ (r : Rack) (held sent : List ℕ) (v : ℕ) where
       λ i j ne m. rw is (other_record words heard (size r) u i j long ne m) in
       let new : (j : ℕ) → j < size r → heard_in (size r) next u j ≡ heard_in (size r) sent (row u) j =
       λ j m. rw is (written words heard (u * size r) j (omega arith) (omega arith) ∙ tabulate_at (size r) _ j m) in (
-        λ i j s m. same i j (λ q. never (sym e ∙ ap (is_broken r.set) (sym q) ∙ s)) m ∙ sound i j s m,
+        λ i j s m. same i j (λ q. true≢false (sym e ∙ ap (is_broken r.set) (sym q) ∙ s)) m ∙ sound i j s m,
         λ i j h b m. below_more (AsSent next j) u (λ i h b. same i j (λ q. omega arith) m ∙ broken i j h b m) (λ b. new j m) i h b,
       )
 
@@ -45,7 +45,7 @@ module _ (r : Rack) (held sent : List ℕ) (v : ℕ) where
   pub sound_passed : (u : ℕ) (heard : List ℕ) → is_broken r.set u ≡ false
       → BrokenAsSent r sent v u heard → BrokenAsSent r sent v (u + 1) heard
   sound_passed u heard e broken i j l b m =
-      below_more (AsSent heard j) u (λ i h b. broken i j h b m) (λ b. absurd (never (sym b ∙ e))) i l b
+      below_more (AsSent heard j) u (λ i h b. broken i j h b m) (λ b. absurd (true≢false (sym b ∙ e))) i l b
 
   -- and so all cards are heard as the rules have it
   pub all_heard : (heard : List ℕ) → SoundAsHeld r held heard → BrokenAsSent r sent v r.counter.n heard

@@ -7,25 +7,23 @@ use native.Mathlib.Numerals.{add-one}
 use native.Mathlib.Omega.{arith}
 use borrow.Rule.Slice.PartMut.{put_mid}
 use lib.Arith.{digits_div}
-use lib.ListN.{length, get_or, set, take, drop, length-append, length-drop}
+use lib.ListN.{length, get_or, set, take, drop, length-append}
 use lib.Seq.{sets, sets-eq, take_at, length-take-le, get_or-set_other, get_or-take, get_or-drop, ext_get_or}
+use Rattle.std.proofs.lemmas.List.{get_or_append_left}
 use Rattle.rules.specs.Counting.{rows}
 use Rattle.rules.specs.Groups.{heard_in}
-use Rattle.rules.proofs.Lists.{part_back, tabulate_at, tabulate_length, before_seam, behind_seam}
+use Rattle.rules.proofs.Lists.{part_length, part_back, tabulate_at, tabulate_length, behind_seam}
 use Rattle.rack.specs.Racks.{words_from}
 
--- a record's part of the table, `&mut table[at..at + w]`; and the table where a record was written there
+-- a record's part of the table, `&mut table[at..at + w]`
 abbrev pub part : List ℕ → ℕ → ℕ → List ℕ
 part table at w = take (at + w - at) (drop at table)
-
-pub part_length : (table : List ℕ) (at w : ℕ) → at + w ≤ length table → length (part table at w) ≡ w
-part_length table at w h = length-take-le (at + w - at) (drop at table) (omega (arith, length-drop at table)) ∙ omega arith
 
 -- what is copied is that part of the list
 pub part_is : (from : List ℕ) (at count : ℕ) → at + count ≤ length from → part from at count ≡ words_from from at count
 part_is from at count h =
-    let long = part_length from at count h in
-    ext_get_or 0 _ _ (long ∙ sym (tabulate_length count _))
+    let long = part_length from at (at + count - at) (omega arith) in
+    ext_get_or 0 _ _ (long ∙ omega arith ∙ sym (tabulate_length count _))
     (λ i l.
     let here : i < count = omega arith in
     get_or-take (at + count - at) (drop at from) i 0 (omega arith) ∙ get_or-drop at from i 0 ∙ sym (tabulate_at count _ i here))
@@ -34,8 +32,9 @@ part_is from at count h =
 pub copied : (from to words : List ℕ) (at place count : ℕ) → at + count ≤ length from → place + count ≤ length to
     → words ≡ part from at count → put_mid place (place + count - place) to words ≡ sets to place (words_from from at count)
 copied from to words at place count hf ht e =
-    let long : length words ≡ place + count - place = omega (arith, ap length e, part_length from at count hf) in
-    part_back words to place (place + count - place) long (omega arith) ∙ ap (sets to place) (e ∙ part_is from at count hf)
+    let long = ap length e ∙ part_length from at (at + count - at) (omega arith) in
+    part_back words to place (place + count - place) (omega (arith, long)) (omega arith)
+    ∙ ap (sets to place) (e ∙ part_is from at count hf)
 
 -- what is written is there
 pub written : (words table : List ℕ) (at j : ℕ) → at + length words ≤ length table → j < length words
@@ -43,7 +42,8 @@ pub written : (words table : List ℕ) (at j : ℕ) → at + length words ≤ le
 written words table at j h l =
     let first : length (take at table) ≡ at = length-take-le at table (omega arith) in
     rw (sets-eq words table at h)
-    (before_seam (take at table ++ words) (drop (at + length words) table) (at + j) (omega (arith, length-append (take at table) words))
+    (get_or_append_left (take at table ++ words) (drop (at + length words) table) 0 (at + j)
+    (omega (arith, length-append (take at table) words))
     ∙ behind_seam (take at table) words at j first)
 
 -- elsewhere nothing changes

@@ -1,15 +1,15 @@
 -- Laws of counting the cards below n that pass a test, and of the smallest number that passes one.
 use mathlib.Core.Path.{◌≡◌, refl, sym, ◌∙◌}
 use mathlib.Core.Logic.{⊎_elim}
-use mathlib.Core.Bool.{Bool, true, false, cond, ◌&&◌, not}
+use mathlib.Core.Bool.{Bool, true, false, cond, ◌&&◌, not, true≢false, false≢true}
 use Prim.Native.Nat.{ℕ, zero, suc, ◌+◌, ◌≤◌, ◌<◌}
 use native.Mathlib.Nat.{add-zero, eq-or-lt_of_le}
 use native.Mathlib.Numerals.{add-one}
 use native.Mathlib.Omega.{arith}
 use borrow.Author.Count.{below_more}
+use Rattle.std.proofs.lemmas.Bool.{and_parts}
 use Rattle.rules.specs.declared.Vote.TheVariants.{Count, None}
 use Rattle.rules.specs.Counting.{count_below, largest_below, or_else, least}
-use Rattle.rules.proofs.Tests.{never, and_left, and_right}
 
 -- one card more
 pub count_yes : (n : ℕ) (p : ℕ → Bool) → p n ≡ true → count_below (n + 1) p ≡ count_below n p + 1
@@ -22,7 +22,7 @@ count_no n p e = rw (add-one, e, add-zero)
 
 bit_le : (s t : Bool) → (s ≡ true → t ≡ true) → cond s 1 0 ≤ cond t 1 0
 bit_le true true h = omega arith
-bit_le true false h = absurd (never (sym (h refl)))
+bit_le true false h = absurd (false≢true (h refl))
 bit_le false true h = omega arith
 bit_le false false h = omega arith
 
@@ -86,7 +86,7 @@ count_le n p = omega (arith, count_not n p)
 pub count_apart : (n : ℕ) (p q : ℕ → Bool) → ((u : ℕ) → p u ≡ true → q u ≡ true → ⊥) → count_below n p + count_below n q ≤ n
 count_apart n p q h =
     let z : ¬ (0 < count_below n (λ u. p u && q u)) = λ l.
-    let r = count_some n (λ u. p u && q u) l in h r.0 (and_left (p r.0) (q r.0) r.2) (and_right (p r.0) (q r.0) r.2) in
+    let r = count_some n (λ u. p u && q u) l in let both = and_parts (p r.0) (q r.0) r.2 in h r.0 both.0 both.1 in
     omega (arith, count_and n p q)
 
 -- a range is split in two
@@ -126,10 +126,10 @@ pub least_at : (n : ℕ) (p : ℕ → Bool) (i : ℕ) → i < n → p i ≡ true
 least_at n p i l q h = go (search_least n p)
   where
     go : Search n p → least n p ≡ Count i
-    go (nothing z k) = absurd (never (sym q ∙ k i l))
+    go (nothing z k) = absurd (true≢false (sym q ∙ k i l))
     go (found j z lj qj hj) =
-        let a : ¬ (i < j) = λ e. never (sym q ∙ hj i e) in
-        let b : ¬ (j < i) = λ e. never (sym qj ∙ h j e) in
+        let a : ¬ (i < j) = λ e. true≢false (sym q ∙ hj i e) in
+        let b : ¬ (j < i) = λ e. true≢false (sym qj ∙ h j e) in
         let s : i ≡ j = omega arith in
         rw s z
 
@@ -139,14 +139,14 @@ least_none n p h = go (search_least n p)
   where
     go : Search n p → least n p ≡ None
     go (nothing e k) = e
-    go (found i e l q k) = absurd (never (sym q ∙ h i l))
+    go (found i e l q k) = absurd (true≢false (sym q ∙ h i l))
 
 -- what passes is not passed over
 pub least_some : (n : ℕ) (p : ℕ → Bool) (i : ℕ) → i < n → p i ≡ true → (j : ℕ) × (least n p ≡ Count j)
 least_some n p i l q = go (search_least n p)
   where
     go : Search n p → (j : ℕ) × (least n p ≡ Count j)
-    go (nothing e h) = absurd (never (sym q ∙ h i l))
+    go (nothing e h) = absurd (true≢false (sym q ∙ h i l))
     go (found j e lj qj h) = (j, e)
 
 -- only the tests below n matter

@@ -1,7 +1,7 @@
 -- A card's next words depend only on its own words and on the carried words of the others.
-use mathlib.Core.Path.{◌≡◌, refl, sym, ap₂, fun_ext, ◌∙◌}
+use mathlib.Core.Path.{◌≡◌, refl, ap₂, fun_ext, ◌∙◌}
 use mathlib.Core.Logic.{⊎_elim}
-use mathlib.Core.Bool.{true, false}
+use mathlib.Core.Bool.{true, false, false≢true}
 use mathlib.Core.List.{◌++◌}
 use Prim.Native.Nat.{ℕ, zero, suc, ◌+◌, ◌*◌, ◌-◌, ◌/◌, ◌%◌, ◌≤◌, ◌<◌}
 use native.Mathlib.Nat.{mod-lt}
@@ -15,7 +15,7 @@ use Rattle.rules.specs.Groups.{half_cards, half_first, half_broken, half_modulus
 use Rattle.rules.specs.Groups.{output_of, output_place, own_words, carried}
 use Rattle.rules.specs.OneBeat.{Standing, sent_by, most_sent, most_frequent, vote, step0, supported, step1, three_steps, phase}
 use Rattle.rules.specs.OneBeat.{kept_d, next_m, next_vote, next_wait, next_standing, level_next, leaf_next, group_next, next_record}
-use Rattle.rules.proofs.Tests.{decided, le_or_lt, never}
+use Rattle.rules.proofs.Tests.{decided, le_or_lt}
 use Rattle.rules.proofs.Counting.{count_same}
 use Rattle.rules.proofs.Halves.{half_less, half_broken_lem, half_few, half_inside, half_of_lem, half_own, half_words_lem, each_half}
 
@@ -153,7 +153,7 @@ group_same (suc k) n (suc f) c hear heard card rounds few l own others =
 -- a carried word is one of the card's own
 carried_own : (k n f u j : ℕ) → carried k n f u j ≡ true → j < own_words k n f u
 unfolding carried own_words
-carried_own zero n f u j e = absurd (never (sym e))
+carried_own zero n f u j e = absurd (false≢true e)
 carried_own (suc k) n zero u j e = omega (arith, eqb-true)
 carried_own (suc k) n (suc f) u j e = ⊎_elim
     (λ (l : 8 ≤ j).

@@ -1,4 +1,4 @@
--- Laws of lists by their places: parts written, rows one after the other, numbers by a rule, padding.
+-- Laws of lists by their places: parts, rows one after the other, numbers by a rule, padding.
 use mathlib.Core.Path.{◌≡◌, refl, sym, ap, ◌∙◌}
 use mathlib.Core.Logic.{⊎_elim}
 use mathlib.Core.List.{List, [], ◌∷◌, ◌++◌, append_assoc}
@@ -7,24 +7,26 @@ use native.Mathlib.Nat.{eq-or-lt_of_le}
 use native.Mathlib.Omega.{arith}
 use borrow.Rule.Slice.PartMut.{put_mid}
 use lib.Arith.{digits_lt}
-use lib.ListN.{length, get_or, take, drop, replicate, length-append, length-replicate, get_or-replicate, get_or-append, get_or-eq_default}
-use lib.Seq.{sets, sets-eq, drop-drop, get_or-append-add}
+use lib.ListN.{length, get_or, take, drop, replicate, length-drop, length-append, length-replicate, get_or-replicate, get_or-eq_default}
+use lib.Seq.{sets, sets-eq, drop-drop, length-take-le, get_or-append-add}
+use Rattle.std.proofs.lemmas.List.{get_or_append_left}
 use Rattle.rules.specs.Counting.{rows, tabulate}
 use Rattle.rules.specs.OneBeat.{padded}
 use Rattle.rules.proofs.Tests.{le_or_lt}
 
--- what stands before the seam, and behind it
-pub before_seam : (x y : List ℕ) (j : ℕ) → j < length x → get_or (x ++ y) j 0 ≡ get_or x j 0
-before_seam x y j l = get_or-append x y 0 j l
-
-pub behind_seam : (x y : List ℕ) (k j : ℕ) → length x ≡ k → get_or (x ++ y) (k + j) 0 ≡ get_or y j 0
-behind_seam x y k j e = rw (← e) (get_or-append-add x y j 0)
+-- a part of n, as `&l[a..b]` reads
+pub part_length : (l : List ℕ) (a n : ℕ) → a + n ≤ length l → length (take n (drop a l)) ≡ n
+part_length l a n h = length-take-le n (drop a l) (omega (arith, length-drop a l))
 
 -- a part of n that was written, as `&mut l[a..b]` is given back
 pub part_back : (p l : List ℕ) (a n : ℕ) → length p ≡ n → a + n ≤ length l → put_mid a n l p ≡ sets l a p
 part_back p l a n e h =
     let q : a + n ≡ a + length p = omega arith in
     sym (sets-eq p l a (omega arith) ∙ rw (drop-drop n a l, q) (append_assoc (take a l) p (drop (a + length p) l)))
+
+-- what stands behind the seam
+pub behind_seam : (x y : List ℕ) (k j : ℕ) → length x ≡ k → get_or (x ++ y) (k + j) 0 ≡ get_or y j 0
+behind_seam x y k j e = rw (← e) (get_or-append-add x y j 0)
 
 -- n rows of w are n * w long
 pub rows_length : (n w : ℕ) (g : ℕ → List ℕ) → ((i : ℕ) → i < n → length (g i) ≡ w) → length (rows n g) ≡ n * w
@@ -42,7 +44,7 @@ rows_at zero w g h i j li lj = absurd (omega arith)
 rows_at (suc n) w g h i j li lj = ⊎_elim
     (λ (e : i ≡ n). rw e (behind_seam (rows n g) (g n) (n * w) j (rows_length n w g (λ i l. h i (omega arith)))))
     (λ (l : i < n).
-    before_seam (rows n g) (g n) (i * w + j)
+    get_or_append_left (rows n g) (g n) 0 (i * w + j)
     (omega (arith, rows_length n w g (λ i l. h i (omega arith)), digits_lt {c = w} l lj))
     ∙ rows_at n w g (λ i l. h i (omega arith)) i j l lj)
     (eq-or-lt_of_le (omega arith))
@@ -70,7 +72,7 @@ padded_at w words j = ⊎_elim
     let b : get_or (words ++ replicate (w - length words) 0) j 0 ≡ get_or (replicate (w - length words) 0) (j - length words) 0 =
     rw e at (get_or-append-add words (replicate (w - length words) 0) (j - length words) 0) in
     b ∙ zeros (w - length words) (j - length words) ∙ sym (get_or-eq_default words 0 l))
-    (λ (l : j < length words). get_or-append words (replicate (w - length words) 0) 0 j l)
+    (λ (l : j < length words). get_or_append_left words (replicate (w - length words) 0) 0 j l)
     (le_or_lt (length words) j)
   where
     zeros : (k i : ℕ) → ◌≡◌ {A = ℕ} (get_or (replicate k 0) i 0) 0

@@ -6,13 +6,13 @@ use Prim.Native.Nat.{ℕ, ◌+◌, ◌≤◌}
 use native.Mathlib.Omega.{arith}
 use lib.Dec.{eqb, leb}
 use borrow.Author.Tests.{eq-eqb, eqb-true, leb-true, not-false}
+use Rattle.std.proofs.lemmas.Bool.{and_parts}
 use Rattle.rules.specs.Parameters.{bad_cards, bad_broken, bad_modulus}
 use Rattle.rules.specs.WholeBeat.{bad_set}
 use Rattle.rules.specs.Text.{well_formed}
 use Rattle.rules.specs.Refusals.{given, beat_refusal}
 use Rattle.rules.specs.RunFile.{Header, header_tests, frame_digits, beat_of, start_words, beat_words, last_beat}
 use Rattle.rules.specs.RunFile.{start_line_refusal, beat_line_refusal}
-use Rattle.rules.proofs.Tests.{and_left, and_right}
 use Rattle.rules.proofs.Shapes.{not_given}
 
 -- where 1, 2, 3 and 7 are not given, what comes after them decides
@@ -48,5 +48,6 @@ beat_formed h beat line e =
     let p = not_given 10 (not formed) _ (omega arith) e in
     let same = eqb (beat_of line) (beat + 1) in
     let q = not-false _ (not_given 11 (not (same && leb (beat_of line) last_beat)) 0 (omega arith) p.1).0 in
-    let b : beat_of line ≡ beat + 1 = eqb-true (beat_of line) (beat + 1) (and_left same (leb (beat_of line) last_beat) q) in
-    (not-false formed p.0, rw b at (leb-true (beat_of line) last_beat (and_right same (leb (beat_of line) last_beat) q)))
+    let both = and_parts same (leb (beat_of line) last_beat) q in
+    let b : beat_of line ≡ beat + 1 = eqb-true (beat_of line) (beat + 1) both.0 in
+    (not-false formed p.0, rw b at (leb-true (beat_of line) last_beat both.1))

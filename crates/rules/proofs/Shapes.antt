@@ -1,23 +1,19 @@
 -- What is known of n, f and c where they are not refused.
 use mathlib.Core.Path.{◌≡◌, refl}
-use mathlib.Core.Bool.{Bool, true, false, ◌||◌}
+use mathlib.Core.Bool.{Bool, true, false}
 use Prim.Native.Nat.{ℕ, ◌*◌, ◌^◌, ◌≤◌, ◌<◌}
 use native.Mathlib.Omega.{arith}
 use lib.Dec.{eqb, ltb, leb}
 use borrow.Author.Tests.{eqb-true, eqb-false, ltb-false, leb-false, not-false}
+use Rattle.std.proofs.lemmas.Bool.{or_parts}
 use Rattle.rules.specs.Parameters.{most_cards, most_broken, least_modulus, most_modulus, record_words, bad_cards, bad_broken, bad_modulus}
 use Rattle.rules.specs.WholeBeat.{broken_below, bad_set, sent_words}
 use Rattle.rules.specs.Refusals.{given, wrong, shape_refusal, counter_refusal, step_refusal, beat_refusal, shown_refusal}
-use Rattle.rules.proofs.Tests.{never}
 
 -- a refusal that is 0: the test did not hold, and nor did those after it
 pub not_given : (number : ℕ) (test : Bool) (others : ℕ) → 0 < number → given number test others ≡ 0 → (test ≡ false) × (others ≡ 0)
 not_given number true others l e = absurd (omega arith)
 not_given number false others l e = (refl, e)
-
-pub neither : (s t : Bool) → (s || t) ≡ false → (s ≡ false) × (t ≡ false)
-neither true t e = absurd (never e)
-neither false t e = (refl, e)
 
 -- where refusals 1, 2 and 3 are not given, what comes after them decides
 pub counter_passed : (n f c others r : ℕ) → r ≡ counter_refusal n f c 0 → r ≡ 0 → counter_refusal n f c others ≡ others
@@ -37,19 +33,19 @@ pub record Shape (n f : ℕ) : Type 0 where
 
 pub good_cards : (n : ℕ) → bad_cards n ≡ false → (0 < n) × (n ≤ most_cards)
 good_cards n e =
-    let t = neither (eqb n 0) (ltb most_cards n) e in
+    let t = or_parts (eqb n 0) (ltb most_cards n) e in
     let z = eqb-false n 0 t.0 in
     (omega arith, ltb-false most_cards n t.1)
 
 pub good_shape : (n f : ℕ) → bad_cards n ≡ false → bad_broken n f ≡ false → Shape n f
 good_shape n f p q =
     let g = good_cards n p in
-    let t = neither (ltb most_broken f) (leb n (3 * f)) q in
+    let t = or_parts (ltb most_broken f) (leb n (3 * f)) q in
     record { some = g.0; cards = g.1; broken = ltb-false most_broken f t.0; few = leb-false n (3 * f) t.1 }
 
 pub good_modulus : (c : ℕ) → bad_modulus c ≡ false → (least_modulus ≤ c) × (c ≤ most_modulus)
 good_modulus c e =
-    let t = neither (ltb c least_modulus) (ltb most_modulus c) e in
+    let t = or_parts (ltb c least_modulus) (ltb most_modulus c) e in
     (ltb-false c least_modulus t.0, ltb-false most_modulus c t.1)
 
 -- where neither refusals 1, 2 and 3 are given nor one after them
@@ -100,7 +96,7 @@ beat_accepted n f c set held sent out e =
     let h = not_given 5 (wrong held (n * record_words f)) _ (omega arith) s.1 in
     let w = not_given 8 (wrong sent (sent_words n f set)) _ (omega arith) h.1 in
     let o = not_given 6 (wrong out (n * record_words f)) 0 (omega arith) w.1 in
-    let b = neither (leb (2 ^ n) set) (ltb f (broken_below set n)) s.0 in
+    let b = or_parts (leb (2 ^ n) set) (ltb f (broken_below set n)) s.0 in
     record {
       shape = a.shape;
       least = a.least;

@@ -8,6 +8,7 @@ use native.Mathlib.Omega.{arith}
 use lib.Dec.{eqb}
 use lib.ListN.{get_or}
 use borrow.Author.Tests.{ne_eqb}
+use Rattle.std.proofs.lemmas.List.{get_or_append_left}
 use Rattle.rules.specs.declared.Vote.{Vote}
 use Rattle.rules.specs.declared.Vote.TheVariants.{Count, None}
 use Rattle.rules.specs.Parameters.{c1, restart, none_word, record_words}
@@ -16,7 +17,7 @@ use Rattle.rules.specs.Groups.{read_vote, word_of, bit_of, output_of, output_pla
 use Rattle.rules.specs.OneBeat.{Standing, follows, cooldown, kept_d, phase, gained}
 use Rattle.rules.specs.OneBeat.{next_m, next_vote, next_wait, next_standing, level_next, group_next}
 use Rattle.rules.proofs.Votes.{read_count, read_none}
-use Rattle.rules.proofs.Lists.{before_seam, behind_seam}
+use Rattle.rules.proofs.Lists.{behind_seam}
 use Rattle.settle.specs.Run.{Run}
 use Rattle.settle.proofs.King.{Beat, stepped}
 use Rattle.settle.proofs.Majority.{vote_below}
@@ -85,7 +86,7 @@ module _ (n f c : ℕ) (sound : ℕ → Bool) (pos : 1 ≤ f) (R : Run n f c sou
   unfolding level_next
   level_word r v j lv sv l =
       words_after r v j lv sv (omega (arith, half_words_lem 0 f (omega arith) pos))
-      ∙ before_seam (level_next n f c (R.hear r v) v) (half_next (R.fuel - 1) n f (R.hear r v) v (half_of n v)) j l
+      ∙ get_or_append_left (level_next n f c (R.hear r v) v) (half_next (R.fuel - 1) n f (R.hear r v) v (half_of n v)) 0 j l
 
   -- those of the card's half
   pub half_word : (r v j : ℕ) → v < n → sound v ≡ true → j + 8 < record_words f

@@ -4,10 +4,10 @@ use mathlib.Core.Bool.{Bool, true, ◌&&◌}
 use Prim.Native.Nat.{ℕ, ◌+◌, ◌≤◌, ◌<◌}
 use native.Mathlib.Omega.{arith}
 use borrow.Author.Tests.{leb-true, le-leb}
+use Rattle.std.proofs.lemmas.Bool.{and_parts}
 use Rattle.rules.specs.declared.Vote.{Vote}
 use Rattle.rules.specs.Counting.{count_below, same}
 use Rattle.rules.specs.OneBeat.{sent_by, enough}
-use Rattle.rules.proofs.Tests.{and_left, and_right}
 use Rattle.rules.proofs.Votes.{same_true, same_eq}
 use Rattle.rules.proofs.Counting.{count_mono, count_and, count_some, count_not}
 use Rattle.settle.specs.Run.{Cards}
@@ -20,13 +20,13 @@ module _ (n f : ℕ) (sound : ℕ → Bool) (cards : Cards n f sound) where
   pub sound_one : (p : ℕ → Bool) → f < count_below n p → (u : ℕ) × (u < n) × (sound u ≡ true) × (p u ≡ true)
   sound_one p h =
       let r = count_some n (λ u. p u && sound u) (omega (arith, count_and n p sound, soundly)) in
-      (r.0, r.1, and_right (p r.0) (sound r.0) r.2, and_left (p r.0) (sound r.0) r.2)
+      let both = and_parts (p r.0) (sound r.0) r.2 in (r.0, r.1, both.1, both.0)
 
   -- n-f cards pass p: more than f pass q, where each sound card that passes p passes q
   pub carry : (p q : ℕ → Bool) → n ≤ count_below n p + f
       → ((u : ℕ) → u < n → sound u ≡ true → p u ≡ true → q u ≡ true) → f < count_below n q
   carry p q h k =
-      let more = count_mono n (λ u. p u && sound u) q (λ u l e. k u l (and_right (p u) (sound u) e) (and_left (p u) (sound u) e)) in
+      let more = count_mono n (λ u. p u && sound u) q (λ u l e. let both = and_parts (p u) (sound u) e in k u l both.1 both.0) in
       omega (arith, count_and n p sound, soundly, more)
 
   -- all sound cards pass p
@@ -38,7 +38,7 @@ module _ (n f : ℕ) (sound : ℕ → Bool) (cards : Cards n f sound) where
       → (u : ℕ) × (u < n) × (sound u ≡ true) × (p u ≡ true) × (q u ≡ true)
   meet p q h k =
       let r = sound_one (λ u. p u && q u) (omega (arith, count_and n p q)) in
-      (r.0, r.1, r.2, and_left (p r.0) (q r.0) r.3, and_right (p r.0) (q r.0) r.3)
+      let both = and_parts (p r.0) (q r.0) r.3 in (r.0, r.1, r.2, both.0, both.1)
 
   -- what n-f cards sent to v and what n-f cards sent to w is the same
   pub quorum : (x y : ℕ → Vote) (X Y : Vote)

@@ -8,11 +8,12 @@ use native.Mathlib.Nat.{add-zero}
 use native.Mathlib.Omega.{arith}
 use lib.Dec.{eqb, ltb}
 use borrow.Author.Tests.{eqb-true, eq-eqb, ltb-true, lt-ltb}
+use Rattle.std.proofs.lemmas.Bool.{and_parts, and_from}
 use Rattle.rules.specs.declared.Vote.{Vote}
 use Rattle.rules.specs.declared.Vote.TheVariants.{Count, None}
 use Rattle.rules.specs.Counting.{count_below}
 use Rattle.rules.specs.OneBeat.{plus_one, follows, cooldown}
-use Rattle.rules.proofs.Tests.{le_or_lt, and_left, and_right, and_both}
+use Rattle.rules.proofs.Tests.{le_or_lt}
 use Rattle.rules.proofs.Counting.{count_some, count_pos}
 use Rattle.settle.proofs.Inc.{inc, plus_one_lem, advance, advance_less, Counts}
 
@@ -119,7 +120,7 @@ module _ (n m again : ℕ) (sound : ℕ → Bool) (R : Reads n m again sound) wh
         0,
         pos,
         λ i v li lv sv z.
-            let trusts = and_both (sound v) (eqb (R.w (b + i) v) 0) sv (eq-eqb _ 0 z) in
+            let trusts = and_from (sound v) (eqb (R.w (b + i) v) 0) sv (eq-eqb _ 0 z) in
             let a = count_pos n (λ v. sound v && eqb (R.w (b + i) v) 0) v lv trusts in
             absurd (omega (arith, count_pos len (λ i. some_one (b + i)) i li (lt-ltb 0 _ a))),
       )
@@ -128,8 +129,9 @@ module _ (n m again : ℕ) (sound : ℕ → Bool) (R : Reads n m again sound) wh
       some h =
           let a = count_some len (λ i. some_one (b + i)) h in
           let u = count_some n (λ v. sound v && eqb (R.w (b + a.0) v) 0) (ltb-true 0 _ a.2) in
-          let su = and_left (sound u.0) (eqb (R.w (b + a.0) u.0) 0) u.2 in
-          let zu = eqb-true (R.w (b + a.0) u.0) 0 (and_right (sound u.0) (eqb (R.w (b + a.0) u.0) 0) u.2) in
+          let trusts = and_parts (sound u.0) (eqb (R.w (b + a.0) u.0) 0) u.2 in
+          let su = trusts.0 in
+          let zu = eqb-true (R.w (b + a.0) u.0) 0 trusts.1 in
           let p = history b u.0 a.0 0 l u.1 su (omega arith) (omega arith) in (
             p.0,
             R.below b u.0 p.0 u.1 su p.1,

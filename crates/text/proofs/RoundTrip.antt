@@ -5,6 +5,7 @@ use mathlib.Core.List.{List}
 use Prim.Native.Nat.{ℕ, ◌+◌, ◌*◌, ◌/◌, ◌%◌, ◌<◌}
 use native.Mathlib.Omega.{arith}
 use borrow.Author.Tests.{eq-eqb}
+use Rattle.std.proofs.lemmas.Bool.{and_from}
 use lib.Dec.{eqb}
 use lib.ListN.{length, get_or, drop}
 use lib.Seq.{ext_get_or, get_or-take, get_or-drop}
@@ -12,7 +13,6 @@ use Rattle.rules.specs.Parameters.{record_words, bad_cards, bad_broken}
 use Rattle.rules.specs.Refusals.{write_refusal, read_refusal}
 use Rattle.rules.specs.Calls.{write_out, read_out}
 use Rattle.rules.specs.Text.{hex_of, all_digits, well_formed, text_of, words_at}
-use Rattle.rules.proofs.Tests.{and_both}
 use Rattle.rules.proofs.Shapes.{not_given}
 use Rattle.digits.proofs.Hexadecimal.{formed, digits_rows, hex_digits, hex_of_number, number_of_hex, number_same, number_below}
 use Rattle.digits.proofs.WordsOfText.{words_length, word_in, text_length, digit_in}
@@ -22,7 +22,7 @@ use Rattle.text.proofs.Accepted.{write_accepted, read_accepted}
 pub written_formed : (words : List ℕ) → well_formed (4 * length words) (text_of words) ≡ true
 unfolding well_formed text_of
 written_formed words =
-    and_both (eqb (length (text_of words)) (4 * length words)) (all_digits (text_of words))
+    and_from (eqb (length (text_of words)) (4 * length words)) (all_digits (text_of words))
     (eq-eqb (length (text_of words)) (4 * length words) (text_length words))
     (digits_rows (length words) (λ (i : ℕ). hex_of 4 (get_or words i 0)) (λ i. hex_digits 4 (get_or words i 0)))
 

@@ -1,11 +1,12 @@
 -- The buffers of words that a step on bytes works with, cut from arrays of zeros: as long as the records and the output need,
 -- and the step on them is not refused either.
-use mathlib.Core.Path.{◌≡◌, refl, ap, ◌∙◌}
-use mathlib.Core.List.{List, ◌∷◌}
-use Prim.Native.Nat.{ℕ, zero, suc, ◌*◌, ◌/◌, ◌≤◌}
+use mathlib.Core.Path.{◌≡◌, ◌∙◌}
+use mathlib.Core.List.{List}
+use Prim.Native.Nat.{ℕ, ◌*◌, ◌/◌, ◌≤◌}
 use native.Mathlib.Omega.{arith}
 use lib.ListN.{length, take, replicate, length-replicate}
 use lib.Seq.{length-take-le}
+use Rattle.std.proofs.lemmas.List.{take-replicate}
 use Rattle.rules.specs.Parameters.{record_words}
 use Rattle.rules.specs.Refusals.{step_refusal, step_bytes_refusal}
 use Rattle.rules.proofs.Records.{words_most}
@@ -20,11 +21,6 @@ pub record Lent (size bytes : ℕ) : Type 0 where
   pub whole : bytes ≡ 2 * length (front size bytes)
   pub zeros : front size bytes ≡ replicate (length (front size bytes)) 0
 
-take_zeros : (k m : ℕ) → k ≤ m → take {A = ℕ} k (replicate m 0) ≡ replicate k 0
-take_zeros zero m l = refl
-take_zeros (suc k) zero l = absurd (omega arith)
-take_zeros (suc k) (suc m) l = ap (λ (r : List ℕ). 0 ∷ r) (take_zeros k m (omega arith))
-
 lent : (size bytes words : ℕ) → bytes ≡ 2 * words → words ≤ size → Lent size bytes
 lent size bytes words e l =
     let n : length (replicate {A = ℕ} size 0) ≡ size = length-replicate size 0 in
@@ -32,7 +28,7 @@ lent size bytes words e l =
     record {
       inside = omega arith;
       whole = omega (arith, long);
-      zeros = take_zeros (bytes / 2) size (omega arith) ∙ rw long;
+      zeros = take-replicate (bytes / 2) size 0 (omega arith) ∙ rw long;
     }
 
 -- the buffers of a step that is not refused, if the table has room for that many words

@@ -4,16 +4,14 @@ use Rattle.std.proofs.lemmas.List.Edits.{fill_by_more}
 use Rattle.rules.specs.Text.{number_at, words_at}
 use Rattle.digits.proofs.Hexadecimal.{formed, number_below}
 use Rattle.digits.proofs.WordsOfText.{words_length, word_in}
-use Rattle.digits.proofs.Parts.{digits_part, number_part}
+use Rattle.digits.proofs.Parts.{digits_cut, number_part}
 use Rattle.digits.proofs.words.read_words.Goals as goal
 
 pub slice_bounds-number_of-end : goal.slice_bounds-number_of-end
 slice_bounds-number_of-end c = omega (arith, (formed _ _ c.requires).0)
 
 pub number_of-requires-clause-digits_alone : goal.number_of-requires-clause-digits_alone
-number_of-requires-clause-digits_alone c =
-    let t = formed _ _ c.requires in
-    digits_part c.args.text.now (4 * c.loop-i.i) _ t.1 (omega (arith, t.0))
+number_of-requires-clause-digits_alone c = digits_cut (4 * c.loop-i.i) _ c.args.text.now (formed _ _ c.requires).1
 
 -- the four digits make a number below 16 ^ 4
 pub overflow_cast-word : goal.overflow_cast-word

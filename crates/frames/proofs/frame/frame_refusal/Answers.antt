@@ -6,8 +6,8 @@ use borrow.Author.Tests.{eq-eqb, ne_eqb}
 use Rattle.rules.specs.RunFile.{frame_digits}
 use Rattle.rules.specs.Text.{well_formed}
 use Rattle.digits.proofs.Hexadecimal.{formed}
-use Rattle.digits.proofs.Parts.{part_length, number_part}
-use Rattle.frames.proofs.Frames.{digits_cut}
+use Rattle.rules.proofs.Lists.{part_length}
+use Rattle.digits.proofs.Parts.{digits_cut, number_part}
 use Rattle.frames.proofs.frame.frame_refusal.Goals as goal
 
 pub slice_bounds-number_of-end : goal.slice_bounds-number_of-end

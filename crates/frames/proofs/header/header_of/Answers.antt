@@ -3,8 +3,8 @@ use mathlib.Core.Path.{refl, sym, ◌∙◌}
 use native.Mathlib.Omega.{arith}
 use Rattle.rules.specs.RunFile.{header_of}
 use Rattle.digits.proofs.Hexadecimal.{formed}
-use Rattle.digits.proofs.Parts.{part_length, number_part}
-use Rattle.frames.proofs.Frames.{digits_cut}
+use Rattle.rules.proofs.Lists.{part_length}
+use Rattle.digits.proofs.Parts.{digits_cut, number_part}
 use Rattle.frames.proofs.header.header_of.Goals as goal
 
 pub slice_bounds-number_of-end : goal.slice_bounds-number_of-end

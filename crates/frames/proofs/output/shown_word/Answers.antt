@@ -8,7 +8,8 @@ use Rattle.rules.specs.declared.Vote.TheVariants.{Count}
 use Rattle.rules.specs.Parameters.{record_words}
 use Rattle.rules.specs.RunFile.{start_words}
 use Rattle.frames.specs.Headers.{said}
-use Rattle.frames.proofs.Shown.{row_inside, unwrapped, shown_sound, shown_broken}
+use Rattle.rack.proofs.Accepted.{record_inside}
+use Rattle.frames.proofs.Shown.{unwrapped, shown_sound, shown_broken}
 use Rattle.frames.proofs.output.shown_word.Goals as goal
 
 pub returns-then-is_broken : goal.returns-then-is_broken
@@ -20,7 +21,7 @@ returns c =
     let h = said a.header.rack in
     let w = c.record_words-w.result in
     let from = a.v * w in
-    let row : from + w ≤ start_words h = rw c.record_words-w.ensures (row_inside h.n (record_words h.f) a.v c.requires.1) in
+    let row : from + w ≤ start_words h = rw c.record_words-w.ensures (record_inside a.v h.n (record_words h.f) c.requires.1) in
     let inside : from + w ≤ length a.table.now = omega (arith, c.requires.0) in
     let q : from + w - from ≡ w = omega arith in
     let words = take (from + w - from) (drop from a.table.now) in

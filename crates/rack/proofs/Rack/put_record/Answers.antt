@@ -2,9 +2,9 @@
 use Rattle.std.proofs.Common.{◌≤◌, ◌+◌, ◌-◌, sym, ap, ◌∙◌, length, ◌*◌}
 use native.Mathlib.Omega.{arith}
 use lib.Seq.{sets}
-use Rattle.rules.proofs.Lists.{part_back}
 use Rattle.rack.specs.Racks.{size, SoundAsHeld}
-use Rattle.rack.proofs.Tables.{part_length, copied}
+use Rattle.rules.proofs.Lists.{part_length, part_back}
+use Rattle.rack.proofs.Tables.{copied}
 use Rattle.rack.proofs.Accepted.{accepted, record_fits}
 use Rattle.rack.proofs.Records.{broken_record, sound_record}
 use Rattle.rack.proofs.Rack.put_record.Goals as goal
@@ -40,13 +40,11 @@ returns-else-is_broken c =
     let e = sym c.is_broken.ensures ∙ c.if-is_broken.false in
     let fits = record_fits r _ _ _ a.v w q.accepted q.card_below c.record_words-w.ensures in
     let sound : SoundAsHeld r a.held.now heard = λ u j s m. c.hear.ensures.0 u j s m ∙ q.sound u j s m in
-    let long = c.fill.ensures.len ∙ part_length a.out.now at w fits.inside in
+    let long = c.fill.ensures.len ∙ part_length a.out.now at (at + w - at) (omega (arith, fits.inside)) in
     let many = c.hear.auto.heard ∙ q.heard_whole ∙ (accepted r _ _ _ q.accepted).held_whole in
     let stepped =
     sound_record r a.held.now a.sent.now (length a.out.now) a.v heard c.fill.new.self q.accepted q.card_below
-    e many (long ∙ c.record_words-w.ensures) sound c.hear.ensures.1 in
-    let put =
-    part_back c.put_next.new.out a.out.now at (at + w - at) (omega (arith, c.put_next.auto.out, long))
-    (omega (arith, fits.inside)) in
+    e many (omega (arith, long, c.record_words-w.ensures)) sound c.hear.ensures.1 in
+    let put = part_back c.put_next.new.out a.out.now at (at + w - at) (c.put_next.auto.out ∙ long) (omega (arith, fits.inside)) in
     let is = ap (sets a.out.now (a.v * size r)) (c.put_next.ensures ∙ stepped) in
     (put ∙ rw c.record_words-w.ensures is, sound)
