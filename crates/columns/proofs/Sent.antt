@@ -7,12 +7,13 @@ use Prim.Native.Nat.{ℕ, ◌+◌, ◌*◌, ◌-◌, ◌≤◌, ◌<◌}
 use native.Mathlib.Omega.{arith}
 use lib.Dec.{eqb, ltb, leb}
 use borrow.Author.Tests.{eqb-true, eqb-false, lt-ltb, le-ltb, le-leb, lt-leb, ne_eqb}
+use Rattle.std.proofs.lemmas.Bool.{cases_Bool, cases_lt}
 use Rattle.rules.specs.declared.Vote.{Vote}
 use Rattle.rules.specs.declared.Vote.TheVariants.{Count, None}
 use Rattle.rules.specs.Counting.{count_below, same}
 use Rattle.rules.specs.Groups.{read_vote}
 use Rattle.rules.specs.OneBeat.{sent_by, enough, vote, supported}
-use Rattle.rules.proofs.Tests.{decided, le_or_lt, lt_or_le}
+use Rattle.rules.proofs.Tests.{le_or_lt}
 use Rattle.rules.proofs.Counting.{count_yes, count_no, count_same, count_not, count_le, count_some, count_split, count_apart}
 use Rattle.rules.proofs.Counting.{least_at, least_none}
 use Rattle.rules.proofs.Votes.{count_none, same_true, same_eq, read_below, read_above, read_is}
@@ -23,14 +24,14 @@ unfolding same
 reads_x m word x l = ⊎_elim
     (λ (w : word < m). rw (read_below m word w))
     (λ (w : m ≤ word). rw (ne_eqb word x (λ e. omega arith), read_above m word w))
-    (lt_or_le word m)
+    (cases_lt word m)
 
 reads_none : (m word : ℕ) → not (ltb word m) ≡ same (read_vote m word) None
 unfolding same
 reads_none m word = ⊎_elim
     (λ (w : word < m). rw (lt-ltb word m w, read_below m word w))
     (λ (w : m ≤ word). rw (le-ltb word m w, read_above m word w))
-    (lt_or_le word m)
+    (cases_lt word m)
 
 -- so the cards that sent a count, those that sent another vote and those that sent none are counted by their words
 pub sent_x : (words : ℕ → ℕ) (m n x : ℕ) → x < m
@@ -55,7 +56,7 @@ sent_never words m n x l = ⊎_elim
     (λ z. let u = count_some n _ z in
     let r = read_is m (words u.0) x (same_true _ _ u.2) in absurd (omega (arith, r.1)))
     (λ z. omega arith)
-    (lt_or_le 0 (count_below n (λ (u : ℕ). same (read_vote m (words u)) (Count x))))
+    (cases_lt 0 (count_below n (λ (u : ℕ). same (read_vote m (words u)) (Count x))))
 
 -- enough cards sent a value where few enough sent another
 pub enough_rest : (n f others cards : ℕ) → others + cards ≡ n → not (ltb f others) ≡ enough n f cards
@@ -94,7 +95,7 @@ unfolding sent_by
 sent_no heard u y ne = ⊎_elim
     (λ (t : same (heard u) y ≡ true). absurd (ne (same_true (heard u) y t)))
     (λ (t : same (heard u) y ≡ false). count_no u (λ (v : ℕ). same (heard v) y) t)
-    (decided (same (heard u) y))
+    (cases_Bool (same (heard u) y))
 
 pub sent_zero : (heard : ℕ → Vote) (y : Vote) → sent_by 0 heard y ≡ 0
 unfolding sent_by count_below
@@ -114,7 +115,7 @@ pub still_short : (heard : ℕ → Vote) (n f m u x : ℕ) → heard u ≡ Count
 still_short heard n f m u x e s h j l = ⊎_elim
     (λ (t : eqb x j ≡ true). rw (← (eqb-true x j t)) s)
     (λ (t : eqb x j ≡ false). rw (sent_no heard u (Count j) (λ r. eqb-false x j t (cc (e, r)))) (h j l))
-    (decided (eqb x j))
+    (cases_Bool (eqb x j))
 
 pub short_still : (heard : ℕ → Vote) (n f m u : ℕ) → heard u ≡ None
     → ((j : ℕ) → j < m → sent_by u heard (Count j) + f < n) → (j : ℕ) → j < m → sent_by (u + 1) heard (Count j) + f < n

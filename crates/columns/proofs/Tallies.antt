@@ -9,11 +9,11 @@ use lib.Dec.{leb, eqb}
 use lib.ListN.{length, get_or, set, replicate, get_or-replicate}
 use lib.Seq.{get_or-set_same, get_or-set_other}
 use borrow.Author.Tests.{lt-ltb, le-ltb, le-leb, lt-leb, eqb-true, eqb-false}
+use Rattle.std.proofs.lemmas.Bool.{cases_lt}
 use Rattle.rules.specs.declared.Vote.{Vote}
 use Rattle.rules.specs.declared.Vote.TheVariants.{Count, None}
 use Rattle.rules.specs.Counting.{largest_below, count_or0}
 use Rattle.rules.specs.OneBeat.{sent_by, most_sent, most_frequent}
-use Rattle.rules.proofs.Tests.{lt_or_le}
 use Rattle.rules.proofs.Counting.{largest_le, largest_least, least_at}
 use Rattle.rules.proofs.Votes.{count_none}
 use Rattle.columns.specs.Columns.{leader}
@@ -129,9 +129,9 @@ module _ (heard : ℕ → Vote) (m u best x : ℕ) (e : heard u ≡ Count x) (l 
       (λ (b : most ≤ t). rw (le-ltb t most b) (⊎_elim
       (λ (z : x < best). let s : min x best ≡ x = omega arith in rw s (leads_x (omega arith) (inr z)))
       (λ (z : best ≤ x). let s : min x best ≡ best = omega arith in rw s (leads_best (omega arith) (inr z)))
-      (lt_or_le x best)))
-      (lt_or_le t most)))
-      (lt_or_le most t)
+      (cases_lt x best)))
+      (cases_lt t most)))
+      (cases_lt most t)
 
 -- the value that leads at the end is the most frequent one
 pub leads_is : (heard : ℕ → Vote) (m n best : ℕ) → Leads heard m n best → most_frequent m n heard ≡ best

@@ -8,13 +8,13 @@ use native.Mathlib.Omega.{arith}
 use lib.Dec.{ltb}
 use lib.ListN.{length, get_or}
 use borrow.Author.Tests.{lt-ltb, ltb-true}
+use Rattle.std.proofs.lemmas.Bool.{cases_Bool}
 use Rattle.rules.specs.declared.Vote.TheVariants.{Count}
 use Rattle.rules.specs.Parameters.{record_words, settle_beats}
 use Rattle.rules.specs.Groups.{output_place, place}
 use Rattle.rules.specs.OneBeat.{group_next, next_record, shown_count}
 use Rattle.rules.specs.Bytes.{word_at, bytes_of}
 use Rattle.rules.specs.Calls.{step_bytes_out}
-use Rattle.rules.proofs.Tests.{decided}
 use Rattle.rules.proofs.Counting.{count_some, count_not}
 use Rattle.rules.proofs.Votes.{read_is}
 use Rattle.rules.proofs.Lists.{rows_at, padded_at, padded_length}
@@ -46,7 +46,7 @@ within_same : (w j a b : ℕ) → (j < w → a ≡ b) → within w j a ≡ withi
 within_same w j a b h = ⊎_elim
     (λ (t : ltb j w ≡ true). rw t (h (ltb-true j w t)))
     (λ (t : ltb j w ≡ false). rw t)
-    (decided (ltb j w))
+    (cases_Bool (ltb j w))
 
 -- a card is sound, and its call, which is accepted, shows that n, f and c are good
 counter : (n f c : ℕ) (sound : ℕ → Bool) → Cards n f sound → ByteRun n f c sound → (others : ℕ) × Counter n f c others

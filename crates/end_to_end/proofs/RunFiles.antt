@@ -10,6 +10,7 @@ use native.Mathlib.Omega.{arith}
 use borrow.Author.Tests.{eqb-true}
 use lib.Dec.{eqb}
 use lib.ListN.{length, get_or}
+use Rattle.std.proofs.lemmas.Bool.{cases_Bool}
 use Rattle.rules.specs.Parameters.{none_word, settle_beats}
 use Rattle.rules.specs.Groups.{word_of}
 use Rattle.rules.specs.Refusals.{beat_refusal}
@@ -18,7 +19,6 @@ use Rattle.rules.specs.RunFile.{Header, header_tests, header_digits, header_of, 
 use Rattle.rules.specs.RunFile.{start_line_refusal, beat_line_refusal, shown_word, output_line, refusal_line, Stage, at_header}
 use Rattle.rules.specs.RunFile.{at_start, at_beat}
 use Rattle.rules.specs.RunFile.{accepted, or_refused, take_line, at_end, continued, run_lines, run_text}
-use Rattle.rules.proofs.Tests.{decided}
 use Rattle.rules.proofs.Shapes.{not_given, counter_accepted}
 use Rattle.rules.proofs.Lines.{no_lines, line_at_lem}
 use Rattle.rules.proofs.RunFiles.{beat_passed, beat_formed}
@@ -107,7 +107,7 @@ module _ (h : Header) (line : ℕ → List ℕ) where
       rw (here, taken b, z, shown_first h b (table b) _)
       (shown_output b _ (length left) _ (in_time b (eqb-true (refusal_on b) 0 z)) (output (suc b) (suc k) left others)))
       (λ (z : eqb (refusal_on b) 0 ≡ false). rw (here, taken b, z) (refusal_output b k (refusal_on b) (suc (length left))))
-      (decided (eqb (refusal_on b) 0))
+      (cases_Bool (eqb (refusal_on b) 0))
 
   -- a header that passes its tests: every beat is accepted, and the counts settle
   module _ (tests : header_tests h ≡ 0) where
@@ -158,7 +158,7 @@ header_accepted [] e = absurd (false≢true e)
 header_accepted (l ∷ left) e = ⊎_elim
     (λ (z : eqb (header_refusal l) 0 ≡ true). eqb-true (header_refusal l) 0 z)
     (λ (z : eqb (header_refusal l) 0 ≡ false). absurd (false≢true (rw z at e)))
-    (decided (eqb (header_refusal l) 0))
+    (cases_Bool (eqb (header_refusal l) 0))
 
 -- The same of a whole file, where a line is known to be no refusal: by its own beat, or by the file
 file_settles : (lines : List (List ℕ)) → header_refusal (get_or lines 0 []) ≡ 0

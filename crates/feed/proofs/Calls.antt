@@ -10,6 +10,7 @@ use lib.Dec.{eqb}
 use lib.ListN.{length, take, drop, length-append, length-take, length-drop, take-append-drop}
 use borrow.Rule.Slice.PartMut.{put_mid}
 use lib.Seq.{sets, sets-eq, take_all, take_at, take-append-add, drop-length, length-take-le}
+use Rattle.std.proofs.lemmas.Bool.{cases_Bool}
 use Rattle.std.specs.Prelude.{Ok, Err}
 use Rattle.rules.specs.declared.Refusal.{Refusal}
 use Rattle.rules.specs.Refusals.{number_of}
@@ -19,7 +20,7 @@ use Rattle.rules.specs.RunFile.{Stage, at_header, at_start, at_beat, Taken, acce
 use Rattle.rules.specs.RunFile.{start_words, beat_words, header_refusal, start_line_refusal, beat_line_refusal, or_refused}
 use Rattle.rules.proofs.Lists.{part_back}
 use Rattle.rules.proofs.Numbers.{number_not_0}
-use Rattle.rules.proofs.Tests.{decided, le_or_lt}
+use Rattle.rules.proofs.Tests.{le_or_lt}
 use Rattle.digits.proofs.WordsOfText.{words_length}
 use Rattle.text.specs.Lines.{line_length, end_from}
 use Rattle.frames.specs.Headers.{said}
@@ -89,7 +90,7 @@ unfolding taken_line or_refused
 taken_passed stage next line text e = ⊎_elim
     (λ (z : eqb (stage_tests stage) 0 ≡ true). (eqb-true (stage_tests stage) 0 z, rw z at e))
     (λ (z : eqb (stage_tests stage) 0 ≡ false). let k = rw z at e in let y : ◌≡◌ {A = ℕ} 0 1 = cc in absurd (omega arith))
-    (decided (eqb (stage_tests stage) 0))
+    (cases_Bool (eqb (stage_tests stage) 0))
 
 line_sized : (stage next : Stage) (line text : List ℕ) (size : ℕ) → stage_tests stage ≡ 0 → take_line stage line ≡ accepted next text
     → 400 ≤ size → Sized next size
@@ -131,7 +132,7 @@ unfolding or_refused
 none_refused refusal t h e = ⊎_elim
     (λ (z : eqb refusal 0 ≡ true). h (rw z at e))
     (λ (z : eqb refusal 0 ≡ false). let k = rw z at e in let y : refusal ≡ 0 = cc in eqb-false refusal 0 z y)
-    (decided (eqb refusal 0))
+    (cases_Bool (eqb refusal 0))
 
 accepted_not : (next : Stage) (text : List ℕ) → accepted next text ≡ refused 0 → ⊥
 accepted_not next text e = let y : ◌≡◌ {A = ℕ} 0 1 = cc in omega arith

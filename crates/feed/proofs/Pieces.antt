@@ -10,10 +10,11 @@ use borrow.Author.Tests.{lt-ltb, ne_eqb, eqb-true}
 use lib.Dec.{eqb}
 use lib.ListN.{length, take, get_or, length-append}
 use lib.Seq.{take_all, take-append-le, length-take-le, take-suc, append_snoc}
+use Rattle.std.proofs.lemmas.Bool.{cases_Bool}
 use Rattle.rules.specs.Text.{line_feed, lines_of, well_formed}
 use Rattle.rules.specs.RunFile.{Stage, at_header, at_start, at_beat, Taken, accepted, refused, take_line, continued, run_lines, run_text}
 use Rattle.rules.specs.RunFile.{header_refusal, start_line_refusal, beat_line_refusal, start_words, beat_words, or_refused}
-use Rattle.rules.proofs.Tests.{decided, le_or_lt}
+use Rattle.rules.proofs.Tests.{le_or_lt}
 use Rattle.rules.proofs.Shapes.{not_given}
 use Rattle.rules.proofs.Lines.{no_feed, no_feed_more, no_lines, line_alone, line_first}
 use Rattle.text.specs.Lines.{line_length}
@@ -78,7 +79,7 @@ unfolding or_refused
 unrefused refusal stage next text written e = ⊎_elim
     (λ (z : eqb refusal 0 ≡ true). (eqb-true refusal 0 z, let k = rw z at e in cc))
     (λ (z : eqb refusal 0 ≡ false). let k = rw z at e in let y : ◌≡◌ {A = ℕ} 0 1 = cc in absurd (omega arith))
-    (decided (eqb refusal 0))
+    (cases_Bool (eqb refusal 0))
 
 pub unrefused_text : (refusal : ℕ) (stage next : Stage) (text written : List ℕ)
     → or_refused refusal (accepted stage text) ≡ accepted next written → text ≡ written
@@ -86,7 +87,7 @@ unfolding or_refused
 unrefused_text refusal stage next text written e = ⊎_elim
     (λ (z : eqb refusal 0 ≡ true). let k = rw z at e in cc)
     (λ (z : eqb refusal 0 ≡ false). let k = rw z at e in let y : ◌≡◌ {A = ℕ} 0 1 = cc in absurd (omega arith))
-    (decided (eqb refusal 0))
+    (cases_Bool (eqb refusal 0))
 
 next_line : (stage next : Stage) (line text : List ℕ) → stage_tests stage ≡ 0 → take_line stage line ≡ accepted next text
     → (stage_tests next ≡ 0) × (line_of next ≡ suc (line_of stage))
@@ -138,7 +139,7 @@ fed_lines (ch ∷ rest) line stage written e p = ⊎_elim
     (λ (z : eqb ch line_feed ≡ false).
     rw (z, one_held line ch, ← (append_snoc line ch rest))
     (fed_lines rest (line ++ (ch ∷ [])) stage written e (no_feed_more line ch p z)))
-    (decided (eqb ch line_feed))
+    (cases_Bool (eqb ch line_feed))
 
 -- a text that is fed character by character writes what the rules say of the whole text
 pub fed_all : (text : List ℕ) → finished (fed start text) ≡ run_text text
@@ -168,7 +169,7 @@ part_held (ch ∷ rest) line stage written = ⊎_elim
     (fed_one ch (take (line_length rest) rest) line stage written z
     ∙ part_held rest (line ++ (ch ∷ [])) stage written
     ∙ rw (append_snoc line ch (take (line_length rest) rest))))
-    (decided (eqb ch line_feed))
+    (cases_Bool (eqb ch line_feed))
 
 feed_there : (t : List ℕ) → line_length t < length t → get_or t (line_length t) 0 ≡ line_feed
 unfolding line_length
@@ -177,7 +178,7 @@ feed_there (ch ∷ rest) l = ⊎_elim
     (λ (z : eqb ch line_feed ≡ true). rw z (eqb-true ch line_feed z))
     (λ (z : eqb ch line_feed ≡ false). let k : suc (line_length rest) < suc (length rest) = rw z at l in
     rw z (feed_there rest (omega arith)))
-    (decided (eqb ch line_feed))
+    (cases_Bool (eqb ch line_feed))
 
 -- and at the line feed the line is at its end
 pub part_ended : (t line : List ℕ) (stage : Stage) (written : List ℕ) → line_length t < length t

@@ -8,9 +8,10 @@ use native.Mathlib.Omega.{arith}
 use lib.Dec.{eqb}
 use lib.ListN.{length, take, drop, take-append-drop, drop_of_length-le}
 use lib.Seq.{sets, drop-drop, drop-length}
+use Rattle.std.proofs.lemmas.Bool.{cases_Bool}
 use Rattle.rules.specs.Text.{line_feed}
 use Rattle.rules.specs.RunFile.{Stage, at_end, Taken, accepted, refused, refusal_line, run_text}
-use Rattle.rules.proofs.Tests.{decided, le_or_lt}
+use Rattle.rules.proofs.Tests.{le_or_lt}
 use Rattle.runfile.specs.declared.Stage.TheVariants.{AtHeader}
 use Rattle.runfile.specs.Runs.{stage_of, taken_line}
 use Rattle.runfile.proofs.Stores.{first_taken}
@@ -40,7 +41,7 @@ unfolding fed_byte wrote ended
 byte_wrote before (reading stage held written) ch = ⊎_elim
     (λ (z : eqb ch line_feed ≡ true). rw z (after_wrote before written stage (taken_line stage held)))
     (λ (z : eqb ch line_feed ≡ false). rw z)
-    (decided (eqb ch line_feed))
+    (cases_Bool (eqb ch line_feed))
 byte_wrote before (stopped written) ch = refl
 
 fed_wrote : (before : List ℕ) (feed : Machine) (text : List ℕ) → fed (wrote before feed) text ≡ wrote before (fed feed text)

@@ -4,9 +4,9 @@ use mathlib.Core.Logic.{⊎_elim}
 use mathlib.Core.Bool.{Bool, true, false, not, ◌&&◌}
 use Prim.Native.Nat.{ℕ}
 use lib.Dec.{eqb, leb}
+use Rattle.std.proofs.lemmas.Bool.{cases_Bool}
 use Rattle.rules.specs.Refusals.{given}
 use Rattle.rules.specs.RunFile.{last_beat}
-use Rattle.rules.proofs.Tests.{decided}
 
 -- 10, or 11 where the beat is another
 abbrev pub of_frame : Bool → ℕ → ℕ → ℕ
@@ -21,4 +21,4 @@ frame_refused true beat next r e h = e
 frame_refused false beat next r e h = ⊎_elim
     (λ (z : eqb beat next ≡ true). absurd (h (rw z at e)))
     (λ (z : eqb beat next ≡ false). rw z (rw z at e))
-    (decided (eqb beat next))
+    (cases_Bool (eqb beat next))

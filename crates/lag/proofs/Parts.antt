@@ -8,7 +8,7 @@ use lib.Dec.{ltb, leb→le, le→leb, ltb→lt, lt→ltb}
 use borrow.Author.Tests.{ltb-true, ltb-false}
 use lib.IntN.{ℤ, pos, negsuc, neg_ℤ, sub_ℕ, ◌+ℤ◌, ◌*ℤ◌}
 use lib.Signed.{◌<ℤ◌, ◌≤ℤ◌}
-use Rattle.rules.proofs.Tests.{decided}
+use Rattle.std.proofs.lemmas.Bool.{cases_Bool}
 
 abbrev pub gain : ℤ → ℕ
 gain (pos n) = n
@@ -32,7 +32,7 @@ difference : (a b : ℕ) → gain (sub_ℕ a b) + b ≡ a + loss (sub_ℕ a b)
 difference a b = ⊎_elim
     (λ (t : ltb a b ≡ true). rw t (omega (arith, ltb-true a b t)))
     (λ (t : ltb a b ≡ false). rw t (omega (arith, ltb-false a b t)))
-    (decided (ltb a b))
+    (cases_Bool (ltb a b))
 
 pub sum : (a b : ℤ) → gain (a +ℤ b) + loss a + loss b ≡ gain a + gain b + loss (a +ℤ b)
 sum (pos a) (pos b) = omega arith

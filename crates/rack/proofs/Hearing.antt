@@ -8,9 +8,9 @@ use native.Mathlib.Omega.{arith}
 use borrow.Author.Count.{below_more}
 use lib.ListN.{length}
 use lib.Seq.{sets}
+use Rattle.std.proofs.lemmas.Bool.{cases_Bool}
 use Rattle.rules.specs.Groups.{place, heard_in}
 use Rattle.rules.specs.WholeBeat.{is_broken, broken_below, heard_on_beat}
-use Rattle.rules.proofs.Tests.{decided}
 use Rattle.rules.proofs.Lists.{tabulate_at, tabulate_length}
 use Rattle.rack.specs.declared.Rack.{Rack}
 use Rattle.rack.specs.Racks.{words_from, size, SoundAsHeld, BrokenAsSent}
@@ -54,4 +54,4 @@ module _ (r : Rack) (held sent : List ℕ) (v : ℕ) where
   all_heard heard sound broken u j l m = ⊎_elim
       (λ (e : is_broken r.set u ≡ true). rw e (broken u j l e m))
       (λ (e : is_broken r.set u ≡ false). rw e (sound u j e m))
-      (decided (is_broken r.set u))
+      (cases_Bool (is_broken r.set u))

@@ -9,13 +9,14 @@ use native.Mathlib.Omega.{arith}
 use lib.ListN.{length}
 use lib.Dec.{eqb}
 use borrow.Author.Tests.{le-ltb, eqb-true, eqb-false, ne_eqb}
+use Rattle.std.proofs.lemmas.Bool.{cases_Bool}
 use Rattle.rules.specs.declared.Vote.{Vote}
 use Rattle.rules.specs.Parameters.{turn, record_words}
 use Rattle.rules.specs.Groups.{half_cards, half_first, half_broken, half_modulus, half_of, heard_in_half}
 use Rattle.rules.specs.Groups.{output_of, output_place, own_words, carried}
 use Rattle.rules.specs.OneBeat.{Standing, sent_by, most_sent, most_frequent, vote, step0, supported, step1, three_steps, phase}
 use Rattle.rules.specs.OneBeat.{kept_d, next_m, next_vote, next_wait, next_standing, level_next, leaf_next, group_next, next_record}
-use Rattle.rules.proofs.Tests.{decided, le_or_lt}
+use Rattle.rules.proofs.Tests.{le_or_lt}
 use Rattle.rules.proofs.Counting.{count_same}
 use Rattle.rules.proofs.Halves.{half_less, half_broken_lem, half_few, half_inside, half_of_lem, half_own, half_words_lem, each_half}
 
@@ -173,7 +174,7 @@ same_sent k n f c hear heard card rounds few l own others =
     (λ u j lu e. ⊎_elim
     (λ (t : eqb u card ≡ true). let s = eqb-true u card t in rw s (own j (rw s at (carried_own k n f u j e))))
     (λ (t : eqb u card ≡ false). others u j lu (eqb-false u card t) e)
-    (decided (eqb u card)))
+    (cases_Bool (eqb u card)))
 
 -- words at or beyond a card's own are never read
 pub same_next : (k n f c : ℕ) (hear heard : ℕ → ℕ → ℕ) (card : ℕ) → f < k → 3 * f < n → card < n

@@ -9,11 +9,11 @@ use native.Mathlib.Omega.{arith}
 use lib.Dec.{eqb}
 use lib.ListN.{length}
 use borrow.Author.Tests.{eqb-false}
+use Rattle.std.proofs.lemmas.Bool.{cases_Bool}
 use Rattle.rules.specs.Parameters.{most_cards, most_broken, digits_in, binary_digits, record_words}
 use Rattle.rules.specs.Groups.{output_place}
 use Rattle.rules.specs.OneBeat.{group_next, next_record}
 use Rattle.rules.specs.WholeBeat.{is_broken, held_record, record_after}
-use Rattle.rules.proofs.Tests.{decided}
 use Rattle.rules.proofs.Digits.{digits_half, digits_mono}
 use Rattle.rules.proofs.Lists.{tabulate_length, padded_length}
 use Rattle.rules.proofs.Heard.{written, own_most}
@@ -36,7 +36,7 @@ pub output_inside : (f : ℕ) → output_place f < record_words f
 output_inside f = ⊎_elim
     (λ (e : eqb f 0 ≡ true). rw e (omega arith))
     (λ (e : eqb f 0 ≡ false). let ne = eqb-false f 0 e in rw e (omega (arith, eight_words f (omega arith))))
-    (decided (eqb f 0))
+    (cases_Bool (eqb f 0))
 
 -- a group's words fit its record
 pub group_length : (k n f c : ℕ) (hear : ℕ → ℕ → ℕ) (card : ℕ) → length (group_next k n f c hear card) ≤ record_words f
@@ -48,4 +48,4 @@ unfolding record_after held_record next_record
 record_length n f c set held sent v = ⊎_elim
     (λ (e : is_broken set v ≡ true). rw e (tabulate_length (record_words f) _))
     (λ (e : is_broken set v ≡ false). rw e (padded_length (record_words f) _ (group_length (suc f) n f c _ v)))
-    (decided (is_broken set v))
+    (cases_Bool (is_broken set v))

@@ -6,13 +6,14 @@ use Prim.Native.Nat.{ℕ, ◌-◌, ◌≤◌, ◌<◌}
 use native.Mathlib.Omega.{arith}
 use lib.Dec.{ltb}
 use borrow.Author.Tests.{eqb-true, eq-eqb, lt-ltb, le-ltb, ltb-true, leb-true, le-leb}
+use Rattle.std.proofs.lemmas.Bool.{cases_Bool}
 use Rattle.rules.specs.declared.Vote.{Vote}
 use Rattle.rules.specs.declared.Vote.TheVariants.{Count, None}
 use Rattle.rules.specs.Counting.{same}
 use Rattle.rules.specs.Parameters.{none_word}
 use Rattle.rules.specs.Groups.{read_vote, word_of}
 use Rattle.rules.specs.OneBeat.{enough}
-use Rattle.rules.proofs.Tests.{decided, le_or_lt}
+use Rattle.rules.proofs.Tests.{le_or_lt}
 
 -- a count is never none
 pub count_none : {x : ℕ} → Count x ≡ None → ⊥
@@ -47,7 +48,7 @@ unfolding read_vote
 read_is m word x e = ⊎_elim
     (λ (t : ltb word m ≡ true). let s : word ≡ x = cc in (s, rw (← s) (ltb-true word m t)))
     (λ (t : ltb word m ≡ false). let z : ◌≡◌ {A = ℕ} 0 1 = cc in absurd (omega arith))
-    (decided (ltb word m))
+    (cases_Bool (ltb word m))
 
 -- a count below the modulus, and none, are read as they were written
 pub read_count : (m x : ℕ) → x < m → read_vote m (word_of (Count x)) ≡ Count x

@@ -8,6 +8,7 @@ use borrow.Author.Tests.{eq-eqb, ne_eqb}
 use lib.Dec.{eqb}
 use lib.ListN.{length, take}
 use lib.Seq.{sets, length-take-le}
+use Rattle.std.proofs.lemmas.Bool.{cases_Bool}
 use Rattle.std.specs.Prelude.{Result, Ok, Err}
 use Rattle.rules.specs.declared.Refusal.{Refusal}
 use Rattle.rules.specs.Refusals.{number_of}
@@ -17,7 +18,6 @@ use Rattle.rules.specs.Calls.{beat_out}
 use Rattle.rules.specs.RunFile.{Header, header_tests, start_words, beat_words}
 use Rattle.rules.specs.RunFile.{Stage, at_header, Taken, accepted, header_refusal, or_refused, take_line}
 use Rattle.rules.proofs.Numbers.{number_not_0}
-use Rattle.rules.proofs.Tests.{decided}
 use Rattle.rules.proofs.Lists.{rows_length}
 use Rattle.rules.proofs.Records.{record_length}
 use Rattle.rules.proofs.RunFiles.{beat_passed}
@@ -81,7 +81,7 @@ unfolding take_line or_refused table_in text_in table_of
 header_writes line = ⊎_elim
     (λ (z : eqb (header_refusal line) 0 ≡ true). rw z (refl, refl))
     (λ (z : eqb (header_refusal line) 0 ≡ false). rw z (refl, refl))
-    (decided (eqb (header_refusal line) 0))
+    (cases_Bool (eqb (header_refusal line) 0))
 
 pub header_takes : (line table out : List ℕ) (r : Result KeptTaken Refusal) → Answers AtHeader (take_line at_header line) r
     → Takes AtHeader (take_line at_header line) table out r table out

@@ -6,11 +6,11 @@ use Prim.Native.Nat.{ℕ, ◌≤◌, ◌<◌}
 use native.Mathlib.Omega.{arith}
 use lib.Dec.{leb, eqb}
 use borrow.Author.Tests.{leb-true, le-leb, lt-leb, eqb-true, eqb-false}
+use Rattle.std.proofs.lemmas.Bool.{cases_Bool}
 use Rattle.rules.specs.declared.Vote.{Vote}
 use Rattle.rules.specs.declared.Vote.TheVariants.{Count}
 use Rattle.rules.specs.Counting.{count_or0, same}
 use Rattle.rules.specs.OneBeat.{sent_by, enough, most_sent, most_frequent, vote}
-use Rattle.rules.proofs.Tests.{decided}
 use Rattle.rules.proofs.Counting.{count_apart, least_is, least_at, least_some, largest_le, largest_least}
 use Rattle.rules.proofs.Votes.{same_true}
 use Rattle.settle.specs.Run.{Cards}
@@ -60,7 +60,7 @@ module _ (n f : ℕ) (sound : ℕ → Bool) (cards : Cards n f sound) (m : ℕ) 
       let no_less : (j : ℕ) → j < m → sent_by n x (Count j) ≤ sent_by n x (Count i) = λ j lj. ⊎_elim
       (λ e. rw (eqb-true j i e) (omega arith))
       (λ e. omega (arith, rarer x i j h (eqb-false j i e)))
-      (decided (eqb j i)) in
+      (cases_Bool (eqb j i)) in
       rw (least_at m (λ j. leb (most_sent m n x) (sent_by n x (Count j))) i l
       (le-leb (most_sent m n x) _ (largest_least m (λ j. sent_by n x (Count j)) (sent_by n x (Count i)) no_less))
       (λ j lj. lt-leb (most_sent m n x) _ (omega (arith, rarer x i j h (omega arith), largest_le m (λ j. sent_by n x (Count j)) i l))))

@@ -6,13 +6,13 @@ use Prim.Native.Nat.{ℕ, ◌+◌, ◌-◌, ◌≤◌, ◌<◌}
 use native.Mathlib.Omega.{arith}
 use lib.Dec.{eqb}
 use borrow.Author.Tests.{eqb-true, eq-eqb}
+use Rattle.std.proofs.lemmas.Bool.{cases_Bool}
 use Rattle.rules.specs.declared.Vote.{Vote}
 use Rattle.rules.specs.declared.Vote.TheVariants.{Count, None}
 use Rattle.rules.specs.Parameters.{c1, restart, none_word}
 use Rattle.rules.specs.Groups.{half_cards, half_first, half_broken, half_modulus, heard_in_half}
 use Rattle.rules.specs.Groups.{read_vote, output_of, output_place, sent_m, kept_vote, kept_wait}
 use Rattle.rules.specs.OneBeat.{trusted, next_m, next_vote, kept_d}
-use Rattle.rules.proofs.Tests.{decided}
 use Rattle.rules.proofs.Votes.{read_is, read_below}
 use Rattle.settle.specs.Run.{Cards, Run}
 use Rattle.settle.proofs.Inc.{Counts}
@@ -34,7 +34,7 @@ trusted_yes wait kept e = rw (eq-eqb wait 0 e)
 
 trusted_or : (wait : ℕ) (kept : Vote) → (trusted wait kept ≡ None) ⊎ (wait ≡ 0)
 unfolding trusted
-trusted_or wait kept = ⊎_elim (λ e. inr (eqb-true wait 0 e)) (λ e. inl (rw e)) (decided (eqb wait 0))
+trusted_or wait kept = ⊎_elim (λ e. inr (eqb-true wait 0 e)) (λ e. inl (rw e)) (cases_Bool (eqb wait 0))
 
 module _ (n f c : ℕ) (sound : ℕ → Bool) (cards : Cards n f sound) (pos : 1 ≤ f) (small : c1 f ≤ none_word)
     (R : Run n f c sound) (i : ℕ) (l : i < 2) where

@@ -7,13 +7,13 @@ use Prim.Native.Nat.{ℕ, zero, suc, ◌+◌, ◌-◌, ◌/◌, ◌≤◌, ◌<�
 use native.Mathlib.Nat.{add-zero, mod-lt}
 use native.Mathlib.Omega.{arith}
 use lib.ListN.{get_or}
+use Rattle.std.proofs.lemmas.Bool.{cases_Bool}
 use Rattle.rules.specs.declared.Vote.{Vote}
 use Rattle.rules.specs.declared.Vote.TheVariants.{Count}
 use Rattle.rules.specs.Counting.{count_or0}
 use Rattle.rules.specs.Parameters.{c1, none_word, settle_beats}
 use Rattle.rules.specs.Groups.{half_cards, half_broken, half_modulus, output_of}
 use Rattle.rules.specs.OneBeat.{plus_one, leaf_next, group_next, shown_count}
-use Rattle.rules.proofs.Tests.{decided}
 use Rattle.rules.proofs.Counting.{count_pos}
 use Rattle.rules.proofs.Votes.{read_below}
 use Rattle.settle.specs.Run.{Cards, Run}
@@ -37,7 +37,7 @@ module _ (n c : ℕ) (sound : ℕ → Bool) (cards : Cards n 0 sound) (two : 2 �
   first_sound : sound 0 ≡ true
   first_sound = ⊎_elim (λ e. e)
       (λ (e : sound 0 ≡ false). absurd (omega (arith, count_pos n (λ u. not (sound u)) 0 (omega arith) (rw e))))
-      (decided (sound 0))
+      (cases_Bool (sound 0))
 
   leaf_word : (k : ℕ) (hear : ℕ → ℕ → ℕ) (card : ℕ) → 0 < k → get_or (group_next k n 0 c hear card) 0 0 ≡ leaf_next c hear
   unfolding group_next

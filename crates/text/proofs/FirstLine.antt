@@ -8,6 +8,7 @@ use native.Mathlib.Nat.{add-zero}
 use native.Mathlib.Omega.{arith}
 use borrow.Author.Tests.{le-leb, lt-leb, ltb-false}
 use lib.Dec.{eqb, leb, ltb}
+use Rattle.std.proofs.lemmas.Bool.{cases_Bool}
 use Rattle.std.specs.Prelude.{position}
 use Rattle.std.specs.Option.{unwrap_or}
 use Rattle.std.specs.List.{position_or_len}
@@ -15,7 +16,6 @@ use Rattle.std.proofs.lemmas.List.Recursion.{is_position_or_len}
 use lib.ListN.{length, get_or, take, drop, length-drop}
 use lib.Seq.{drop-drop, get_or-drop, length-take-le}
 use Rattle.rules.specs.Text.{line_feed, one_more, in_front, lines_of, has_line, line_at, span_of, start_of}
-use Rattle.rules.proofs.Tests.{decided}
 use Rattle.text.specs.Lines.{line_length, end_from, Stands}
 
 length_fits : (t : List ℕ) → line_length t ≤ length t
@@ -24,7 +24,7 @@ length_fits [] = omega arith
 length_fits (ch ∷ rest) = ⊎_elim
     (λ e. rw e (omega arith))
     (λ e. rw e (omega (arith, length_fits rest)))
-    (decided (eqb ch line_feed))
+    (cases_Bool (eqb ch line_feed))
 
 abbrev pub is_feed : ℕ → Bool
 is_feed ch = eqb ch line_feed
@@ -42,7 +42,7 @@ feed_at t =
     ⊎_elim
     (λ b. rw b (sym (length_is t)))
     (λ b. rw b (omega (arith, ltb-false p (length t) b, length_is t, length_fits t)))
-    (decided (ltb p (length t)))
+    (cases_Bool (ltb p (length t)))
 
 pub end_within : (text : List ℕ) (start : ℕ) → start ≤ length text → end_from text start ≤ length text
 end_within text start l = omega (arith, length_fits (drop start text), length-drop start text)
@@ -56,11 +56,11 @@ part_length text start l =
 first_line : (t : List ℕ) → 0 < length t → lines_of t ≡ take (line_length t) t ∷ lines_of (drop (suc (line_length t)) t)
 unfolding line_length lines_of in_front one_more
 first_line [] l = absurd (omega arith)
-first_line (ch ∷ []) l = ⊎_elim (λ e. rw e) (λ e. rw e) (decided (eqb ch line_feed))
+first_line (ch ∷ []) l = ⊎_elim (λ e. rw e) (λ e. rw e) (cases_Bool (eqb ch line_feed))
 first_line (ch ∷ x ∷ rest) l = ⊎_elim
     (λ e. rw e)
     (λ e. rw (e, first_line (x ∷ rest) (omega arith)))
-    (decided (eqb ch line_feed))
+    (cases_Bool (eqb ch line_feed))
 
 -- the same from a place on
 pub lines_from : (text : List ℕ) (start : ℕ) → start < length text
