@@ -111,8 +111,8 @@ fn arguments_that_a_tool_does_not_take() {
             "no edit matches --only '999999'",
         ),
         (
-            &["mutate", "settle", "rules"],
-            "there is nothing to edit in settle, rules",
+            &["mutate", "settle", "end_to_end"],
+            "there is nothing to edit in settle, end_to_end",
         ),
     ] {
         let tool = words[0];
@@ -124,11 +124,11 @@ fn arguments_that_a_tool_does_not_take() {
 /// The other libraries are worked through.
 #[test]
 fn a_library_without_code_is_named() {
-    let (output, errors, code) = parts(&launched(&["mutate", "--list", "rules", "lag"]));
+    let (output, errors, code) = parts(&launched(&["mutate", "--list", "end_to_end", "lag"]));
     assert!(output.contains(" lag/src/lib.rt:"), "{output}");
     assert_eq!(
         (errors.as_str(), code),
-        ("mutate: there is nothing to edit in rules\n", Some(0))
+        ("mutate: there is nothing to edit in end_to_end\n", Some(0))
     );
 }
 
