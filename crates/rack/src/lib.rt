@@ -58,8 +58,8 @@ impl Rack {
             record.copy_from_slice(&held[at..at + w]);
         } else {
             self.hear(sent, v, heard);
-            record.fill(0);
-            card::put_next(self.counter, v, heard, record);
+            // It cannot be refused: the beat is not, and the lengths are right.
+            let _ = card::step(self.counter, v, heard, record);
         }
     }
 

@@ -1,5 +1,5 @@
 -- `rack::Rack::put_record` meets its contract: a broken card's record is copied, a sound card's is its step's.
-use Rattle.std.proofs.Common.{◌≤◌, ◌+◌, ◌-◌, sym, ap, ◌∙◌, length, ◌*◌}
+use Rattle.std.proofs.Common.{◌≤◌, ◌+◌, ◌-◌, sym, ap, ◌∙◌, length, take, drop, ◌*◌}
 use native.Mathlib.Omega.{arith}
 use lib.Seq.{sets}
 use Rattle.rack.specs.Racks.{size, SoundAsHeld}
@@ -40,11 +40,12 @@ returns-else-is_broken c =
     let e = sym c.is_broken.ensures ∙ c.if-is_broken.false in
     let fits = record_fits r _ _ _ a.v w q.accepted q.card_below c.record_words-w.ensures in
     let sound : SoundAsHeld r a.held.now heard = λ u j s m. c.hear.ensures.0 u j s m ∙ q.sound u j s m in
-    let long = c.fill.ensures.len ∙ part_length a.out.now at (at + w - at) (omega (arith, fits.inside)) in
+    let mine = take (at + w - at) (drop at a.out.now) in
+    let long = part_length a.out.now at (at + w - at) (omega (arith, fits.inside)) in
     let many = c.hear.auto.heard ∙ q.heard_whole ∙ (accepted r _ _ _ q.accepted).held_whole in
     let stepped =
-    sound_record r a.held.now a.sent.now (length a.out.now) a.v heard c.fill.new.self q.accepted q.card_below
+    sound_record r a.held.now a.sent.now (length a.out.now) a.v heard mine q.accepted q.card_below
     e many (omega (arith, long, c.record_words-w.ensures)) sound c.hear.ensures.1 in
-    let put = part_back c.put_next.new.out a.out.now at (at + w - at) (c.put_next.auto.out ∙ long) (omega (arith, fits.inside)) in
-    let is = ap (sets a.out.now (a.v * size r)) (c.put_next.ensures ∙ stepped) in
+    let put = part_back c.step.new.out a.out.now at (at + w - at) (c.step.auto.out ∙ long) (omega (arith, fits.inside)) in
+    let is = ap (sets a.out.now (a.v * size r)) (c.step.ensures.1 ∙ stepped) in
     (put ∙ rw c.record_words-w.ensures is, sound)
