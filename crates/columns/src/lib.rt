@@ -53,13 +53,13 @@ impl Column<'_> {
         ensures { (passes : ℕ → Bool) → Computes (F.post test) passes
             → result ≡ ltb few (count_below self.entry.n (λ (u : ℕ). passes (word_in self.entry u))) }
     {
-        let mut left = few;
+        let mut many: usize = 0;
         for u in 0..self.n {
             if test(self.said(u)) {
-                if left == 0 {
+                many += 1;
+                if few < many {
                     return true;
                 }
-                left -= 1;
             }
         }
         false

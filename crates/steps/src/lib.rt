@@ -41,10 +41,10 @@ impl Standing {
         requires { StepAsks col f c }
         ensures { standing result ≡ step1 col.entry.n f c (votes_in c col.entry) (standing self) }
     {
-        Standing {
-            a: col.smallest_supported(f as usize, c),
-            b: col.sent_enough(f as usize, c, self.a),
-        }
+        // In this order: the other way costs the step instructions.
+        let b = col.sent_enough(f as usize, c, self.a);
+        let a = col.smallest_supported(f as usize, c);
+        Standing { a, b }
     }
 
     // RULES 5.6: "If a is none or b is 0, a becomes the king's a, or 0 if the king has none."; "b becomes 1."

@@ -1,4 +1,5 @@
-//! docs/FIRMWARE.md: its programs are good C, its example prints what it says, and its sizes and times are the rules'.
+//! docs/FIRMWARE.md: its programs are good C, its example prints what it says, its sizes and times are the rules', and no step is
+//! longer than it says.
 
 use std::env::consts::ARCH;
 use std::fs;
@@ -82,4 +83,55 @@ fn the_sizes_are_those_of_the_rules() {
         let time = format!("{beats} ms");
         assert!(f == 0 || page.replace('\n', " ").contains(&time), "{time}");
     }
+}
+
+/// The archive's machine code, as text.
+fn machine_code() -> PathBuf {
+    let objdump = if ARCH == "x86_64" {
+        "objdump"
+    } else {
+        "x86_64-linux-gnu-objdump"
+    };
+    let archive = root().join("target/staticlib/libtsendurkho.a");
+    let printed = Command::new(objdump)
+        .args(["-dr", "--no-show-raw-insn"])
+        .arg(archive)
+        .output()
+        .expect("objdump starts");
+    assert!(printed.status.success());
+    file("archive.s", &String::from_utf8_lossy(&printed.stdout))
+}
+
+/// How many instructions a step of a rack takes at most, read from the machine code. A card is in as many split groups as f has
+/// binary digits.
+fn longest(code: &Path, n: u32, f: u32) -> u32 {
+    let turns = u32::BITS - f.leading_zeros();
+    let printed = Command::new("awk")
+        .args(["-v", "start=tsendurkho_step"])
+        .args(["-v", &format!("cards={n}"), "-v", &format!("turns={turns}")])
+        .arg("-f")
+        .arg(root().join("host/bench/longest.awk"))
+        .arg(code)
+        .output()
+        .expect("awk starts");
+    let printed = String::from_utf8_lossy(&printed.stdout);
+    printed.trim().parse().expect("a number of instructions")
+}
+
+#[test]
+fn no_step_is_longer_than_its_bound() {
+    let code = machine_code();
+    let mut racks = 0;
+    for row in page(PAGE).lines().filter(|row| row.starts_with("| n = ")) {
+        let numbers: String = row.chars().filter(|sign| *sign != ',').collect();
+        let numbers = numbers.split(|sign: char| !sign.is_ascii_digit());
+        let numbers: Vec<u32> = numbers.flat_map(str::parse).collect();
+        let [n, f, _, bound] = numbers[..] else {
+            panic!("{row}");
+        };
+        let found = longest(&code, n, f);
+        assert!(0 < found && found <= bound, "{found}: {row}");
+        racks += 1;
+    }
+    assert_eq!(racks, 9);
 }
