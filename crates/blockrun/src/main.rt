@@ -81,24 +81,24 @@ fn run_piece(run: &mut Run, piece: &[u8], streams: &mut Streams)
     }
 }
 
-// Reads to the end of the input, to the first bad line, or to a line that could not be written. Nothing says that an input
-// ends, so the rounds are counted, up to a number that no run uses up.
-fn run_input(streams: &mut Streams) -> Run
-    ensures { Reached result }
+// Begins a run, and reads to the end of the input, to the first bad line, or to a line that could not be written. Nothing says
+// that an input ends, so the rounds are counted, up to a number that no run uses up. The run is lent: one that is returned
+// lies on the stack twice.
+fn run_input(run: &mut Run, streams: &mut Streams)
+    ensures { Reached run.new }
 {
-    let mut run = Run::new();
+    *run = Run::new();
     let mut piece = [0u8; PIECE];
     for _ in 0..u64::MAX {
         let count = streams.get(&mut piece);
         if count == 0 {
-            return run;
+            return;
         }
-        run_piece(&mut run, &piece[..count], streams);
+        run_piece(run, &piece[..count], streams);
         if !streams.whole || matches!(run.feed, Feed::Stopped) {
-            return run;
+            return;
         }
     }
-    run
 }
 
 fn main(rt: HostRuntime) {
@@ -106,7 +106,8 @@ fn main(rt: HostRuntime) {
         rt: &rt,
         whole: true,
     };
-    let mut run = run_input(&mut streams);
+    let mut run = Run::new();
+    run_input(&mut run, &mut streams);
     let mut out = [0u8; 69];
     let written = run.finish(&mut out);
     streams.put(&out[..written]);
