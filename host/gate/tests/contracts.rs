@@ -174,6 +174,22 @@ fn a_method_that_no_other_crate_calls() {
     });
 }
 
+/// A crate that does not depend on the method's crate calls another method of that name.
+#[test]
+fn a_method_whose_name_others_have() {
+    reported(
+        "not-called-namesake",
+        |copy| {
+            copy.replace(
+                "crates/groups/src/lib.rt",
+                "level::next_level(g, card, row).put(",
+                "level::next_level(g, card, row).write(",
+            );
+        },
+        &["contracts: level::Level::put: no other crate calls it"],
+    );
+}
+
 /// Names may come in one by one or in lists, on any lines, and under another name.
 #[test]
 fn a_call_by_a_name_that_a_list_brings_in() {
