@@ -16,7 +16,7 @@ enum { CHECKED = 20000, MOST_SENT = 5 * MOST_WORDS };
 typedef uint32_t (*Beat)(uint32_t, uint32_t, uint32_t, uint32_t, const uint16_t *, size_t, const uint16_t *, size_t,
                          uint16_t *, size_t);
 
-/* `rack::beat`. */
+/* `Rack::beat`. */
 uint32_t proved_beat(uint32_t n, uint32_t f, uint32_t c, uint32_t broken, const uint16_t *held, size_t held_len,
                      const uint16_t *sent, size_t sent_len, uint16_t *out, size_t out_len);
 
