@@ -41,7 +41,7 @@ impl Standing {
         requires { StepAsks col f c }
         ensures { standing result ≡ step1 col.entry.n f c (votes_in c col.entry) (standing self) }
     {
-        // In this order: the other way costs the step instructions.
+        // In this order: the other way, the step takes more instructions.
         let b = col.sent_enough(f as usize, c, self.a);
         let a = col.smallest_supported(f as usize, c);
         Standing { a, b }
