@@ -11,11 +11,12 @@ const DECIMAL: u8 = b'0';
 
 const LETTER: u8 = b'a' - 10;
 
+// Two tests: with one pattern for both ranges, the run program takes more instructions.
 #[tactic(auto, unfolding(rules::specs::Text::is_digit))]
 fn is_digit(ch: u8) -> bool
     ensures { result ≡ is_digit ch }
 {
-    matches!(ch, b'0'..=b'9' | b'a'..=b'f')
+    ch.is_ascii_digit() || matches!(ch, b'a'..=b'f')
 }
 
 // The value of a digit. The ways of std take a `char` and may answer none, which is no plainer.
